@@ -1,0 +1,29 @@
+use Rattle.std.proofs.Common.{◌≡◌, ◌<◌, ◌≤◌, ◌∙◌, length, List, ℕ, refl, sym, ap, subst, arith, Ok}
+use Rattle.std.proofs.lemmas.List.{take_at}
+use Rattle.xmp_base.specs.Whole.{ReadAll}
+use Rattle.xmp_base.proofs.Calls.{read_large, read_memory, read_device, read_done, size_known, size_len}
+use Rattle.xmp_base.proofs.whole.read_all.Goals as goal
+
+pub returns-then-size-limit : goal.returns-then-size-limit
+returns-then-size-limit g c = record { call = read_large _ _ _ _ _ c.in-Ok.ensures.call c.if-size-limit.true }
+
+pub returns-in_default : goal.returns-in_default
+returns-in_default g c = record { call = read_memory _ _ _ _ _ c.in-Ok.ensures.call c.if-size-limit.false }
+
+pub fill-requires-clause-known : goal.fill-requires-clause-known
+fill-requires-clause-known g c = size_known _ _ _ _ c.args.limit c.in-Ok.ensures.call
+
+pub fill-requires-clause-whole : goal.fill-requires-clause-whole
+fill-requires-clause-whole g c = c.as_mut_slice.ensures.len ∙ c.in-Ok-vec.ensures.len ∙ sym (size_len _ _ _ _ c.args.limit c.in-Ok.ensures.call)
+
+pub returns-in-Ok-fill : goal.returns-in-Ok-fill
+returns-in-Ok-fill g c =
+    let size : length c.fill.new.to ≡ c.in-Ok.size = c.fill.auto.to ∙ c.as_mut_slice.ensures.len ∙ c.in-Ok-vec.ensures.len in
+    let same : c.from_vec.result ≡ c.fill.new.to = c.from_vec.ensures ∙ take_at _ _ _ (size ∙ sym c.in-Ok-vec.ensures.len) in
+    record {
+      call = subst (λ (bytes : List ℕ). ReadAll (g.D.Desk.state c.args.desk.now) (g.D.Desk.state c.fill.new.desk) c.args.name.now c.args.limit (Ok bytes)) (sym same)
+          (read_done _ _ _ _ _ c.in-Ok.ensures.call _ _ c.if-size-limit.false size c.in-Ok-fill.ensures.call);
+    }
+
+pub returns-in-Err : goal.returns-in-Err
+returns-in-Err g c = record { call = read_device _ _ _ _ _ c.in-Ok.ensures.call _ _ c.in-Err.field-0 c.in-Err.ensures.call }

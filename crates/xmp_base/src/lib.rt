@@ -1,0 +1,22 @@
+//! Devices: files by name and sinks of bytes, in memory and real ones.
+//!
+//! A trait says by its `state` what a device holds, and each call has one record of
+//! clauses over that state. What is read is what the files hold, an answer of failure
+//! was counted, and every loop over a device takes at least a byte a turn.
+//! It stands on `xmp_values`, whose items it offers too.
+#![tactic(auto)]
+
+mod device;
+mod file_desk;
+mod memory_desk;
+mod memory_sink;
+mod std_sink;
+mod whole;
+
+pub use device::{Desk, Failed, Sink, SizeStop};
+pub use file_desk::FileDesk;
+pub use memory_desk::MemoryDesk;
+pub use memory_sink::MemorySink;
+pub use std_sink::StdSink;
+pub use whole::{ReadStop, read_all};
+pub use xmp_values::{Bytes, Digits, Memory, Name, Sequence, Text, Words};

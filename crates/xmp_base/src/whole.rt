@@ -1,0 +1,55 @@
+// A whole file.
+ghost use Rattle.std.specs.Prelude.{◌≡◌, ◌<◌, length, IsTrue};
+ghost use Rattle.xmp_base.specs.Device.{is_known, len_of};
+ghost use Rattle.xmp_base.specs.Whole.{FillCall, ReadAll};
+
+use crate::{Desk, Failed, SizeStop};
+use std::alloc::Global;
+use xmp_values::Bytes;
+
+#[derive(Clone, Copy, Debug, PartialEq, Eq)]
+pub enum ReadStop {
+    Absent,
+    TooLarge(u64),
+    Device,
+    Memory,
+}
+
+/// The bytes of a file of at most `limit` bytes.
+pub fn read_all<D: Desk>(
+    alloc: Global,
+    desk: &mut D,
+    name: &str,
+    limit: u64,
+) -> Result<Bytes, ReadStop>
+    ensures call { ReadAll (D.state desk.old) (D.state desk.new) name.now limit result }
+{
+    let size = match desk.size(name) {
+        Ok(size) => size,
+        Err(SizeStop::Absent) => return Err(ReadStop::Absent),
+        Err(SizeStop::Failed) => return Err(ReadStop::Device),
+    };
+    if size > limit {
+        return Err(ReadStop::TooLarge(size));
+    }
+    let Ok(mut items) = vec![in alloc; 0u8; size as usize] else {
+        return Err(ReadStop::Memory);
+    };
+    match fill(desk, name, items.as_mut_slice()) {
+        Ok(()) => Ok(Bytes::from_vec(items)),
+        Err(Failed) => Err(ReadStop::Device),
+    }
+}
+
+/// Fills a slice of the file's length with its bytes.
+fn fill<D: Desk>(desk: &mut D, name: &str, to: &mut [u8]) -> Result<(), Failed>
+    requires known { IsTrue (is_known (D.state desk.old) name.now) }
+    requires whole { length to.old ≡ len_of (D.state desk.old) name.now }
+    ensures call { FillCall (D.state desk.old) (D.state desk.new) name.now to.new result }
+{
+    let mut done = 0;
+    while done < to.len() {
+        done += desk.read_at(name, done as u64, &mut to[done..])?;
+    }
+    Ok(())
+}

@@ -1,0 +1,82 @@
+ghost use Rattle.std.specs.Prelude.{◌≡◌, ◌↔◌, IsTrue};
+
+use crate::nested::{Kind, Member, Shape, Value};
+use xmp_values::{Name, Text};
+
+pub fn equal_texts(a: &Text<'_>, b: &Text<'_>) -> bool
+    ensures { IsTrue result ↔ (a.now ≡ b.now) }
+{
+    a.bytes() == b.bytes()
+}
+
+pub fn equal_names(a: &Name<'_>, b: &Name<'_>) -> bool
+    ensures { IsTrue result ↔ (a.now ≡ b.now) }
+{
+    equal_texts(&a.space, &b.space) && equal_texts(&a.local, &b.local)
+}
+
+fn equal_kinds(a: Kind, b: Kind) -> bool
+    ensures { IsTrue result ↔ (a ≡ b) }
+{
+    a == b
+}
+
+#[cycle(equal)]
+#[tactic(auto, using(crate::proofs::Values::same_value))]
+pub fn equal_values(a: &Value<'_>, b: &Value<'_>) -> bool
+    ensures { IsTrue result ↔ (a.now ≡ b.now) }
+{
+    equal_shapes(&a.shape, &b.shape) && equal_members(a.quals.as_slice(), b.quals.as_slice())
+}
+
+#[cycle(equal)]
+fn equal_shapes(a: &Shape<'_>, b: &Shape<'_>) -> bool
+    ensures { IsTrue result ↔ (a.now ≡ b.now) }
+{
+    match (a, b) {
+        (Shape::Simple(s), Shape::Simple(t)) => equal_texts(s, t),
+        (Shape::Uri(s), Shape::Uri(t)) => equal_texts(s, t),
+        (Shape::Struct(s), Shape::Struct(t)) => equal_members(s.as_slice(), t.as_slice()),
+        (Shape::Array(j, s), Shape::Array(k, t)) => {
+            equal_kinds(*j, *k) && equal_items(s.as_slice(), t.as_slice())
+        }
+        _ => false,
+    }
+}
+
+#[cycle(equal)]
+fn equal_members_at(a: &Member<'_>, b: &Member<'_>) -> bool
+    ensures { IsTrue result ↔ (a.now ≡ b.now) }
+{
+    equal_names(&a.name, &b.name) && equal_values(&a.value, &b.value)
+}
+
+#[cycle(equal)]
+pub fn equal_members(a: &[Member<'_>], b: &[Member<'_>]) -> bool
+    ensures { IsTrue result ↔ (a.now ≡ b.now) }
+{
+    if a.len() != b.len() {
+        return false;
+    }
+    for i in 0..a.len() {
+        if !equal_members_at(&a[i], &b[i]) {
+            return false;
+        }
+    }
+    true
+}
+
+#[cycle(equal)]
+fn equal_items(a: &[Value<'_>], b: &[Value<'_>]) -> bool
+    ensures { IsTrue result ↔ (a.now ≡ b.now) }
+{
+    if a.len() != b.len() {
+        return false;
+    }
+    for i in 0..a.len() {
+        if !equal_values(&a[i], &b[i]) {
+            return false;
+        }
+    }
+    true
+}

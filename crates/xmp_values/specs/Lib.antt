@@ -1,0 +1,7 @@
+pub mod Characters
+pub mod Digits
+pub mod Hints
+pub mod Kept
+pub mod Lending
+pub mod Rules
+pub mod formers

@@ -1,0 +1,63 @@
+//! The characters of XML 1.0 (fifth edition), productions 2 to 4a, the names without the colon.
+ghost use Rattle.std.specs.Prelude.{◌≡◌, chars};
+ghost use Rattle.xmp_values.specs.Characters.{is_char, is_blank, is_name_start, is_name_char, is_name_of};
+
+/// Char, production 2.
+#[tactic(auto, unfolding(crate::specs::Characters::is_char))]
+pub fn is_char(c: char) -> bool
+    ensures { result ≡ is_char c }
+{
+    matches!(
+        c,
+        '\u{9}'..='\u{A}'
+            | '\u{D}'
+            | '\u{20}'..='\u{D7FF}'
+            | '\u{E000}'..='\u{FFFD}'
+            | '\u{10000}'..='\u{10FFFF}'
+    )
+}
+
+/// White space, production 3.
+#[tactic(auto, unfolding(crate::specs::Characters::is_blank))]
+pub fn is_blank(c: char) -> bool
+    ensures { result ≡ is_blank c }
+{
+    matches!(c, '\t' | '\n' | '\r' | ' ')
+}
+
+/// NameStartChar without the colon, production 4.
+#[tactic(auto, unfolding(crate::specs::Characters::is_name_start))]
+pub fn is_name_start(c: char) -> bool
+    ensures { result ≡ is_name_start c }
+{
+    matches!(
+        c,
+        'A'..='Z'
+            | '_'
+            | 'a'..='z'
+            | '\u{C0}'..='\u{D6}'
+            | '\u{D8}'..='\u{F6}'
+            | '\u{F8}'..='\u{2FF}'
+            | '\u{370}'..='\u{37D}'
+            | '\u{37F}'..='\u{1FFF}'
+            | '\u{200C}'..='\u{200D}'
+            | '\u{2070}'..='\u{218F}'
+            | '\u{2C00}'..='\u{2FEF}'
+            | '\u{3001}'..='\u{D7FF}'
+            | '\u{F900}'..='\u{FDCF}'
+            | '\u{FDF0}'..='\u{FFFD}'
+            | '\u{10000}'..='\u{EFFFF}'
+    )
+}
+
+/// NameChar without the colon, production 4a.
+#[tactic(auto, unfolding(crate::specs::Characters::is_name_char))]
+pub fn is_name_char(c: char) -> bool
+    ensures { result ≡ is_name_char c }
+{
+    is_name_start(c)
+        || matches!(
+            c,
+            '-' | '.' | '0'..='9' | '\u{B7}' | '\u{300}'..='\u{36F}' | '\u{203F}'..='\u{2040}'
+        )
+}

@@ -1,0 +1,60 @@
+ghost use Rattle.std.specs.Prelude.{◌≡◌};
+
+use crate::Bytes;
+use std::marker::Model;
+
+/// A text of the file, or one of its own. Contracts see its bytes.
+#[derive(Drop)]
+pub struct Text<'p> {
+    kept: Kept<'p>,
+}
+
+#[derive(Drop)]
+enum Kept<'p> {
+    Raw(&'p [u8]),
+    Own(Bytes),
+}
+
+impl<'p> Model for Text<'p> {
+    ghost use Rattle.std.specs.Prelude.{List, ℕ};
+
+    ghost Value = { List ℕ };
+
+    ghost use Rattle.xmp_values.specs.Kept.{bytes_of};
+
+    ghost view = { λ t. bytes_of t.kept };
+}
+
+impl<'p> Text<'p> {
+    pub fn raw(bytes: &'p [u8]) -> Text<'p>
+        ensures { result ≡ bytes.now }
+    {
+        Text {
+            kept: Kept::Raw(bytes),
+        }
+    }
+
+    pub fn own(bytes: Bytes) -> Text<'p>
+        ensures { result ≡ bytes }
+    {
+        Text {
+            kept: Kept::Own(bytes),
+        }
+    }
+
+    pub fn bytes(&self) -> &[u8]
+        ensures { result.now ≡ self.now }
+    {
+        match &self.kept {
+            Kept::Raw(bytes) => bytes,
+            Kept::Own(bytes) => bytes.as_slice(),
+        }
+    }
+}
+
+/// A name by its namespace and its local part.
+#[derive(Drop)]
+pub struct Name<'p> {
+    pub space: Text<'p>,
+    pub local: Text<'p>,
+}
