@@ -1,0 +1,8 @@
+//! Reads XMP packets: a text to its document.
+//!
+//! `read` answers a document exactly where the text is one that it knows, today a plain
+//! one: an `x:xmpmeta` with simple properties of Dublin Core, one on each line. It stands
+//! on `xml_grammar` and `xmp_values`. XML 1.0 (fifth edition); ISO 16684-1, section 7.
+#![tactic(auto)]
+
+pub use xml_grammar::{Attribute, Attributes, Child, Children, Element};
