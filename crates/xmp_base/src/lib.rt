@@ -8,6 +8,7 @@
 
 mod device;
 mod file_desk;
+mod file_span;
 mod memory_desk;
 mod memory_sink;
 mod std_sink;
@@ -15,6 +16,7 @@ mod whole;
 
 pub use device::{Desk, Failed, Sink, SizeStop};
 pub use file_desk::FileDesk;
+pub use file_span::FileSpan;
 pub use memory_desk::MemoryDesk;
 pub use memory_sink::MemorySink;
 pub use std_sink::StdSink;
