@@ -1,6 +1,7 @@
-ghost use Rattle.std.specs.Prelude.{◌≡◌};
+ghost use Rattle.std.specs.Prelude.{◌≡◌, IfOk};
 
-use crate::Bytes;
+use crate::{Bytes, Memory};
+use std::alloc::Global;
 use std::marker::Model;
 
 /// A text of the file, or one of its own. Contracts see its bytes.
@@ -48,6 +49,16 @@ impl<'p> Text<'p> {
         match &self.kept {
             Kept::Raw(bytes) => bytes,
             Kept::Own(bytes) => bytes.as_slice(),
+        }
+    }
+
+    /// The same text again. One of the file is only borrowed again, one of its own is copied.
+    pub fn again(&self, alloc: Global) -> Result<Text<'p>, Memory>
+        ensures { IfOk result (λ t. t ≡ self.now) }
+    {
+        match &self.kept {
+            Kept::Raw(bytes) => Ok(Text::raw(bytes)),
+            Kept::Own(bytes) => Ok(Text::own(Bytes::from_slice(alloc, bytes.as_slice())?)),
         }
     }
 }
