@@ -6,5 +6,9 @@
 #![tactic(auto)]
 
 mod elements;
+mod tags;
+mod tokens;
 
 pub use elements::{Attribute, Attributes, Child, Children, Element};
+pub use tags::{QName, RawAttribute, Tag};
+pub use tokens::{Mode, Token};
