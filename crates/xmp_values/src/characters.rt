@@ -1,6 +1,9 @@
 //! The characters of XML 1.0 (fifth edition), productions 2 to 4a, the names without the colon.
-ghost use Rattle.std.specs.Prelude.{◌≡◌, chars};
-ghost use Rattle.xmp_values.specs.Characters.{is_char, is_blank, is_name_start, is_name_char, is_name_of};
+ghost use Rattle.std.specs.Prelude.{◌≡◌, ◌↔◌, IsTrue, chars};
+ghost use Rattle.std.specs.List.{list_all};
+ghost use Rattle.xmp_values.specs.Characters.{is_char, is_blank, is_name_start, is_name_char, is_name_of, IsCharText, IsName};
+
+use std::str::from_utf8;
 
 /// Char, production 2.
 #[tactic(auto, unfolding(crate::specs::Characters::is_char))]
@@ -60,4 +63,50 @@ pub fn is_name_char(c: char) -> bool
             c,
             '-' | '.' | '0'..='9' | '\u{B7}' | '\u{300}'..='\u{36F}' | '\u{203F}'..='\u{2040}'
         )
+}
+
+/// Whether a text has no character but Chars.
+fn has_chars_alone(text: &str) -> bool
+    ensures { result ≡ list_all is_char (chars text.now) }
+{
+    text.chars().all(is_char)
+}
+
+/// Whether each character of a text may stand in a name.
+fn has_name_chars_alone(text: &str) -> bool
+    ensures { result ≡ list_all is_name_char (chars text.now) }
+{
+    text.chars().all(is_name_char)
+}
+
+/// Whether a text is a name without colon.
+fn is_name_text(text: &str) -> bool
+    ensures { result ≡ is_name_of (chars text.now) }
+{
+    let mut characters = text.chars();
+    match characters.next() {
+        Some(first) => is_name_start(first) && has_name_chars_alone(characters.as_str()),
+        None => false,
+    }
+}
+
+/// Whether the bytes are the UTF-8 of Chars.
+pub fn is_char_text(bytes: &[u8]) -> bool
+    ensures { IsTrue result ↔ IsCharText bytes.now }
+{
+    match from_utf8(bytes) {
+        Ok(text) => has_chars_alone(text),
+        Err(_) => false,
+    }
+}
+
+/// Whether the bytes are the UTF-8 of a name without colon: Name of XML 1.0, production 5, as
+/// NCName of Namespaces in XML 1.0 cuts it.
+pub fn is_name(bytes: &[u8]) -> bool
+    ensures { IsTrue result ↔ IsName bytes.now }
+{
+    match from_utf8(bytes) {
+        Ok(text) => is_name_text(text),
+        Err(_) => false,
+    }
 }
