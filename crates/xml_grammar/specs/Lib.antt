@@ -1,2 +1,6 @@
 pub mod Spelling
 pub mod Pieces
+pub mod Scopes
+pub mod Nesting
+pub mod Trees
+pub mod Documents
