@@ -25,6 +25,12 @@ pub trait Desk {
 
     fn create(&mut self, name: &str) -> Result<(), Failed>
         ensures call { CreateCall (state self.old) (state self.new) name.now result };
+
+    fn write_at(&mut self, name: &str, at: u64, from: &[u8]) -> Result<usize, Failed>
+        requires known { IsTrue (is_known (state self.old) name.now) }
+        requires within { at ≤ len_of (state self.old) name.now }
+        requires room { at + length from.now < 2 ^ 64 }
+        ensures call { WriteCall (state self.old) (state self.new) name.now at from.now result };
 }
 
 /// Where output goes.

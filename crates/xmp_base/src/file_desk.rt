@@ -9,12 +9,12 @@ ghost use Rattle.std.specs.Io.{ReadsAtMost, WritesAtMost};
 ghost use Rattle.std.specs.Str.{bytes_eq};
 
 use crate::{Desk, Failed, SizeStop};
-use xmp_values::{Memory, Words};
 use std::alloc::Global;
-use std::fs::File;
-use std::io::{ErrorKind, Read, Seek, SeekFrom};
+use std::fs::{File, OpenOptions};
+use std::io::{ErrorKind, Read, Seek, SeekFrom, Write};
 use std::rt::Files;
 use std::{fs, io};
+use xmp_values::{Memory, Words};
 
 #[derive(Drop)]
 pub struct Known {
@@ -109,6 +109,27 @@ impl<'r, R: Files> Desk for FileDesk<'r, R> {
             }
         }
     }
+
+    fn write_at(&mut self, name: &str, at: u64, from: &[u8]) -> Result<usize, Failed> {
+        if from.is_empty() {
+            return Ok(0);
+        }
+        let len = known_len(&self.names, name);
+        let Some(i) = place_of(&self.names, name) else {
+            self.faults = self.faults.saturating_add(1);
+            return Err(Failed);
+        };
+        match write_to(self.rt, name, at, from) {
+            Ok(count) if 0 < count => {
+                self.names[i].len = Some(len.max(at + count as u64));
+                Ok(count)
+            }
+            _ => {
+                self.faults = self.faults.saturating_add(1);
+                Err(Failed)
+            }
+        }
+    }
 }
 
 fn place_of(names: &[Known], name: &str) -> Option<usize>
@@ -133,4 +154,12 @@ fn read_from<R: Files>(rt: &R, name: &str, at: u64, to: &mut [u8]) -> io::Result
     let mut file = File::open(rt, name)?;
     file.seek(SeekFrom::Start(at))?;
     file.read(to)
+}
+
+fn write_to<R: Files>(rt: &R, name: &str, at: u64, from: &[u8]) -> io::Result<usize>
+    ensures { WritesAtMost result from.now }
+{
+    let mut file = OpenOptions::new().write(true).open(rt, name)?;
+    file.seek(SeekFrom::Start(at))?;
+    file.write(from)
 }

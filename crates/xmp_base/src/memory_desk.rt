@@ -1,19 +1,19 @@
 // Files in memory, on a desk that fails where it is told to.
-ghost use Rattle.std.specs.Prelude.{◌⊎◌, ◌≡◌, ◌<◌, ◌≤◌, ◌==◌, ◌-◌, ◌++◌, IsSome, min, map, take, drop, ◌+◌, ◌^◌, length, IsTrue, List, ℕ, ◌∷◌, [], OnOk, OnErr};
+ghost use Rattle.std.specs.Prelude.{◌⊎◌, ◌≡◌, ◌<◌, ◌≤◌, ◌==◌, ◌-◌, ◌++◌, IsSome, min, map, take, drop, ◌+◌, ◌^◌, length, cond, IsTrue, IsErr, Ok, Err, ◌/◌, List, ℕ, ◌∷◌, [], OnOk, OnErr};
 ghost use Rattle.std.specs.List.{position};
 ghost use Rattle.std.specs.Str.{bytes_eq};
 ghost use Rattle.std.specs.String.{string_bytes};
 ghost use Rattle.std.specs.Option.{option_map};
 ghost use Rattle.std.specs.FinMap.{get};
 ghost use Rattle.xmp_base.specs.Device.{put_at, bytes_of};
-ghost use Rattle.xmp_base.specs.Memory.{Stored, desk_state, files_of, is_planned_next, moved};
-ghost use Rattle.xmp_base.specs.Device.{SizeCall};
+ghost use Rattle.xmp_base.specs.Memory.{FailsExactly, Stored, Written, desk_state, failed, files_of, is_planned_next, moved, up};
+ghost use Rattle.xmp_base.specs.Device.{is_known, len_of, SizeCall, WriteCall};
 ghost use Rattle.std.specs.List.{list_any};
 
 use crate::{Desk, Failed, SizeStop};
-use xmp_values::Memory;
 use std::alloc::{AllocError, Global};
 use std::marker::Model;
+use xmp_values::Memory;
 
 #[derive(Drop)]
 pub struct Entry {
@@ -136,9 +136,11 @@ impl MemoryDesk {
 
     /// Counts a call, and answers whether it is to fail.
     fn is_planned(&mut self) -> bool
-        ensures calls { self.new ≡ record self.old { calls = min (self.old.calls + 1) (2 ^ 64 - 1) } }
-        ensures planned { result ≡ list_any (λ call. call == self.new.calls) self.old.plan }
+        ensures calls { self.new ≡ record self.old { calls = up self.old.calls } }
+        ensures planned { result ≡ is_planned_next self.old }
+        ensures fits { (self.old.faults < 2 ^ 64) × (self.old.misses < 2 ^ 64) × (self.old.wants < 2 ^ 64) }
     {
+        let _ = (self.faults, self.misses, self.wants);
         self.calls = self.calls.saturating_add(1);
         self.plan.contains(&self.calls)
     }
@@ -209,11 +211,89 @@ impl MemoryDesk {
         }
     }
 
+    /// Puts a piece into a file. At an error nothing has changed.
+    fn put_in_file(&mut self, name: &str, at: u64, piece: &[u8]) -> Result<(), AllocError>
+        requires known { IsSome (get (files_of self.old.files) name.now) }
+        requires within { at ≤ length (bytes_of (files_of self.old.files) name.now) }
+        ensures ok { OnOk result (Stored self.old self.new name.now (put_at (bytes_of (files_of self.old.files) name.now) at piece.now)) }
+        ensures err { OnErr result (self.new ≡ self.old) }
+    {
+        match place_of(&self.files, name) {
+            Some(i) => {
+                let file = &mut self.files[i];
+                put(&mut file.bytes, at as usize, piece)?;
+                Ok(())
+            }
+            None => Ok(()),
+        }
+    }
+
+    /// Records a write. At an error nothing has changed.
+    fn note_write(&mut self, name: &str, at: u64, count: u64) -> Result<(), AllocError>
+        ensures ok { OnOk result (self.new ≡ record self.old { wrote = self.old.wrote ++ (name.now, at, count) ∷ [] }) }
+        ensures err { OnErr result (self.new ≡ self.old) }
+    {
+        note(self.alloc, &mut self.wrote, name, at, count)
+    }
+
+    /// Takes the last record of a write back.
+    fn forget_write(&mut self)
+        ensures { self.new ≡ record self.old { wrote = take (length self.old.wrote - 1) self.old.wrote } }
+    {
+        let _ = self.wrote.pop();
+    }
+
+    /// Records a write and puts its bytes into the file. At an error nothing has changed.
+    fn write_noted(
+        &mut self,
+        name: &str,
+        at: u64,
+        piece: &[u8],
+        noted: u64,
+    ) -> Result<(), AllocError>
+        requires known { IsSome (get (files_of self.old.files) name.now) }
+        requires within { at ≤ length (bytes_of (files_of self.old.files) name.now) }
+        ensures ok { OnOk result (Stored (record self.old { wrote = self.old.wrote ++ (name.now, at, noted) ∷ [] }) self.new name.now (put_at (bytes_of (files_of self.old.files) name.now) at piece.now)) }
+        ensures err { OnErr result (self.new ≡ self.old) }
+    {
+        self.note_write(name, at, noted)?;
+        match self.put_in_file(name, at, piece) {
+            Ok(()) => Ok(()),
+            Err(refused) => {
+                self.forget_write();
+                Err(refused)
+            }
+        }
+    }
+
+    /// How many bytes a write of a piece of this length puts into the file.
+    fn put_count(&self, planned: bool, length: usize) -> usize
+        ensures value { result ≡ cond planned (length / 2) (min length self.now.most) }
+        ensures most { 0 < self.now.most }
+    {
+        let most = (length as u64).min(self.most) as usize;
+        if planned { length / 2 } else { most }
+    }
+
+    /// Ends a call that moved so many bytes: as a failure where it was planned to fail.
+    fn end(&mut self, planned: bool, count: usize) -> Result<usize, Failed>
+        requires { IsTrue planned → 0 < length self.old.plan }
+        ensures after { self.new ≡ record self.old { faults = cond planned (up self.old.faults) self.old.faults } }
+        ensures answer { result ≡ cond planned (Err failed) (Ok count) }
+    {
+        if planned {
+            self.fault();
+            Err(Failed)
+        } else {
+            Ok(count)
+        }
+    }
+
     /// Counts a planned failure.
     fn fault(&mut self)
         requires { 0 < length self.old.plan }
         ensures fits { self.old.faults < 2 ^ 64 }
-        ensures after { self.new ≡ record self.old { faults = min (self.old.faults + 1) (2 ^ 64 - 1) } }
+        ensures after { self.new ≡ record self.old { faults = up self.old.faults } }
     {
         self.faults = self.faults.saturating_add(1);
     }
@@ -221,7 +301,7 @@ impl MemoryDesk {
     /// Counts a name that isn't there.
     fn miss(&mut self)
         ensures fits { self.old.misses < 2 ^ 64 }
-        ensures after { self.new ≡ record self.old { misses = min (self.old.misses + 1) (2 ^ 64 - 1) } }
+        ensures after { self.new ≡ record self.old { misses = up self.old.misses } }
     {
         self.misses = self.misses.saturating_add(1);
     }
@@ -229,7 +309,7 @@ impl MemoryDesk {
     /// Counts a failure for want of memory.
     fn want(&mut self)
         ensures fits { self.old.faults < 2 ^ 64 }
-        ensures after { self.new ≡ record self.old { faults = min (self.old.faults + 1) (2 ^ 64 - 1); wants = min (self.old.wants + 1) (2 ^ 64 - 1) } }
+        ensures after { self.new ≡ record self.old { faults = up self.old.faults; wants = up self.old.wants } }
     {
         self.faults = self.faults.saturating_add(1);
         self.wants = self.wants.saturating_add(1);
@@ -250,6 +330,25 @@ fn note(
     let name = String::from_str(alloc, name)?;
     moves.push(Move { name, place, count })?;
     Ok(())
+}
+
+/// Puts a piece at its place, which may make the bytes longer. At an error nothing has changed.
+fn put(bytes: &mut Vec<u8>, at: usize, piece: &[u8]) -> Result<(), AllocError>
+    requires { at ≤ length bytes.old.items }
+    ensures ok { OnOk result (bytes.new.items ≡ put_at bytes.old.items at piece.now) }
+    ensures err { OnErr result (bytes.new.items ≡ bytes.old.items) }
+{
+    let within = piece.len().min(bytes.len() - at);
+    bytes.extend_from_slice(&piece[within..])?;
+    bytes[at..at + within].copy_from_slice(&piece[..within]);
+    Ok(())
+}
+
+/// How many bytes of a piece a write notes: all of one that is planned to fail.
+fn noted_count(planned: bool, length: usize, count: usize) -> usize
+    ensures { result ≡ cond planned length count }
+{
+    if planned { length } else { count }
 }
 
 impl Desk for MemoryDesk {
@@ -298,6 +397,26 @@ impl Desk for MemoryDesk {
         }
         match self.empty_file(name) {
             Ok(()) => Ok(()),
+            Err(_) => {
+                self.want();
+                Err(Failed)
+            }
+        }
+    }
+
+    fn write_at(&mut self, name: &str, at: u64, from: &[u8]) -> Result<usize, Failed>
+        requires known { IsTrue (is_known (desk_state self.old) name.now) }
+        requires within { at ≤ len_of (desk_state self.old) name.now }
+        requires room { at + length from.now < 2 ^ 64 }
+        ensures call { WriteCall (desk_state self.old) (desk_state self.new) name.now at from.now result }
+        ensures after { Written self.old self.new name.now at from.now result }
+        ensures fails { FailsExactly (is_planned_next self.old) self.old.wants self.new.wants (IsErr result) }
+    {
+        let planned = self.is_planned();
+        let count = self.put_count(planned, from.len());
+        let noted = noted_count(planned, from.len(), count);
+        match self.write_noted(name, at, &from[..count], noted as u64) {
+            Ok(()) => self.end(planned, count),
             Err(_) => {
                 self.want();
                 Err(Failed)

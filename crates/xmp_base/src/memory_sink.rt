@@ -3,9 +3,9 @@ ghost use Rattle.std.specs.Prelude.{◌≡◌, []};
 ghost use Rattle.xmp_base.specs.Memory.{sink_state};
 
 use crate::{Failed, Sink};
-use xmp_values::Memory;
 use std::alloc::Global;
 use std::marker::Model;
+use xmp_values::Memory;
 
 #[derive(Drop)]
 pub struct MemorySink {

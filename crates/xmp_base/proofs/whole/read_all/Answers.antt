@@ -1,4 +1,4 @@
-use Rattle.std.proofs.Common.{◌≡◌, ◌<◌, ◌≤◌, ◌∙◌, length, List, ℕ, refl, sym, ap, subst, arith, Ok}
+use Rattle.std.proofs.Common.{◌≡◌, ◌∙◌, length, List, ℕ, sym, subst, Ok}
 use Rattle.std.proofs.lemmas.List.{take_at}
 use Rattle.xmp_base.specs.Whole.{ReadAll}
 use Rattle.xmp_base.proofs.Calls.{read_large, read_memory, read_device, read_done, size_known, size_len}
