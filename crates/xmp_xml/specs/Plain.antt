@@ -22,19 +22,18 @@ foot = codes "</rdf:Description>\n</rdf:RDF>\n</x:xmpmeta>\n"
 unfoldable pub opening : List ℕ
 opening = codes "<dc:"
 
-unfoldable pub close : List ℕ
-close = codes "</dc:"
+unfoldable pub closing : List ℕ
+closing = codes "</dc:"
+
+unfoldable pub tag_end : List ℕ
+tag_end = codes ">"
 
 unfoldable pub line_end : List ℕ
 line_end = codes ">\n"
 
--- what stands behind the text of a property of this name
-abbrev pub closing : List ℕ → List ℕ
-closing name = close ++ name ++ line_end
-
--- the line of a property, `>` being 62
+-- the line of a property
 abbrev pub line : Property → List ℕ
-line p = opening ++ p.0 ++ 62 ∷ p.1 ++ closing p.0
+line p = opening ++ (p.0 ++ (tag_end ++ (p.1 ++ (closing ++ (p.0 ++ line_end)))))
 
 -- an ASCII letter
 unfoldable pub is_letter : ℕ → Bool
@@ -66,7 +65,7 @@ text_limit = 16777216
 -- The text is plain, with these properties.
 pub record IsPlain (text : List ℕ) (ps : List Property) : Type 0 where
   pub short : length text ≤ text_limit
-  pub lines : text ≡ head ++ concat (map line ps) ++ foot
+  pub lines : text ≡ head ++ (concat (map line ps) ++ foot)
   pub are : ArePlain ps
 
 -- The same as a function, which a law of this crate ties to `IsPlain`.
@@ -80,17 +79,22 @@ pub record FirstLine : Type 0 where
   pub property : Property
   pub rest : List ℕ
 
--- the text of a property of this name, and the end of its line
-abbrev pub text_line : List ℕ → List ℕ → Option FirstLine
-text_line name from =
-    let text = take_while is_plain from in
-    option_map (λ rest. record { property = (name, text); rest = rest }) (behind (closing name) (drop (length text) from))
+-- the end of a line with this name
+abbrev pub closed : List ℕ → List ℕ → Option (List ℕ)
+closed name from = option_and_then (behind line_end) (option_and_then (behind name) (behind closing from))
 
--- the name of a property, its text, and the end of its line
+-- behind `<dc:NAME>` stand this text and the end of the line
+abbrev pub text_line : List ℕ → List ℕ → List ℕ → Option FirstLine
+text_line name text from = option_map (λ rest. record { property = (name, text); rest = rest }) (closed name (drop (length text) from))
+
+-- behind `<dc:` stand this name, a plain text and the end of the line
+abbrev pub name_line : List ℕ → List ℕ → Option FirstLine
+name_line name from =
+    if length name == 0 then None
+    else option_and_then (λ rest. text_line name (take_while is_plain rest) rest) (behind tag_end (drop (length name) from))
+
 abbrev pub named_line : List ℕ → Option FirstLine
-named_line from =
-    let name = take_while is_letter from in
-    if length name == 0 then None else option_and_then (text_line name) (behind (62 ∷ []) (drop (length name) from))
+named_line from = name_line (take_while is_letter from) from
 
 unfoldable pub first_line : List ℕ → Option FirstLine
 first_line text = option_and_then named_line (behind opening text)
