@@ -1,1 +1,2 @@
 pub mod CharacterTexts
+pub mod NameSets

@@ -3,5 +3,6 @@ pub mod Digits
 pub mod Hints
 pub mod Kept
 pub mod Lending
+pub mod Names
 pub mod Rules
 pub mod formers

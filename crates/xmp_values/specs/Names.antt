@@ -1,0 +1,18 @@
+-- Names, by their namespace and local part.
+use mir.Syntax.{named as the_named}
+use Rattle.std.specs.Prelude.{ℕ, List, [], map}
+use Rattle.std.specs.Borrow.{Bor}
+use Rattle.std.specs.Coded.{Coded, coded_list}
+use Rattle.xmp_values.specs.declared.text.Name.{Name}
+use Rattle.xmp_values.specs.contracts.text.Name as the_name
+
+-- the name of this namespace and this local part
+abbrev pub named : List ℕ → List ℕ → Name
+named space local = record { space = space; local = local }
+
+-- the names behind pairs of borrowed bytes
+abbrev pub names_of : List (Bor (List ℕ) × Bor (List ℕ)) → List Name
+names_of = map (λ key. named key.0.now key.1.now)
+
+abbrev pub names_code : Coded (List Name)
+names_code = coded_list (the_name.the_row record { mir = the_named 1; lft = [] }).coded

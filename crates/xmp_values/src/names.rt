@@ -1,0 +1,49 @@
+//! Sets of names.
+ghost use Rattle.std.specs.Prelude.{◌≡◌, ◌⊎◌, ◌↔◌, [], IsTrue, IfOk, OnOk, OnErr, Contains};
+ghost use Rattle.xmp_values.specs.declared.text.Name.{Name};
+ghost use Rattle.xmp_values.specs.Names.{named};
+
+use crate::Memory;
+use std::alloc::Global;
+use std::collections::BTreeSet;
+use std::marker::Model;
+
+/// A set of names, each a namespace and a local part, that borrows their bytes. To contracts it
+/// is the list of its names, in an order of its own. A look-up costs the logarithm of their number.
+#[derive(Drop)]
+pub struct NameSet<'n> {
+    keys: BTreeSet<(&'n [u8], &'n [u8])>,
+}
+
+impl<'n> Model for NameSet<'n> {
+    ghost use Rattle.std.specs.Prelude.{List};
+    ghost use Rattle.xmp_values.specs.declared.text.Name.{Name};
+    ghost use Rattle.xmp_values.specs.Names.{names_code, names_of};
+
+    ghost Value = { List Name };
+
+    ghost coded = { names_code };
+
+    ghost view = { λ s. names_of s.keys.keys };
+}
+
+impl<'n> NameSet<'n> {
+    /// The empty set, which takes no memory.
+    pub fn new(alloc: Global) -> NameSet<'n>
+        ensures { result ≡ [] }
+    {
+        NameSet {
+            keys: BTreeSet::new(alloc),
+        }
+    }
+
+    /// Puts a name in, and tells whether it is new. Without memory the set stays as it was.
+    pub fn insert(&mut self, space: &'n [u8], local: &'n [u8]) -> Result<bool, Memory>
+        ensures added { IfOk result (λ is_new. IsTrue is_new ↔ (Contains self.old (named space.now local.now) → ⊥)) }
+        ensures holds { OnOk result ((n : Name) → Contains self.new n ↔ (Contains self.old n ⊎ (n ≡ named space.now local.now))) }
+        ensures err { OnErr result (self.new ≡ self.old) }
+    {
+        let is_new = self.keys.insert((space, local))?;
+        Ok(is_new)
+    }
+}
