@@ -1,11 +1,8 @@
 // Real files by the names of a command line.
-ghost use Rattle.std.specs.Prelude.{◌≡◌, ◌<◌, ◌≤◌, List, ℕ, length};
-ghost use Rattle.xmp_base.specs.FileDesk.{file_state, known_lens};
+ghost use Rattle.std.specs.Prelude.{◌≡◌, ◌<◌, ◌≤◌, ◌+◌, ◌-◌, ◌^◌, min, List, ℕ, length, IfOk};
+ghost use Rattle.xmp_base.specs.FileDesk.{file_state, known_lens, name_and_len};
 ghost use Rattle.std.specs.String.{string_bytes};
 ghost use Rattle.std.specs.List.{position};
-ghost use Rattle.std.specs.FinMap.{get};
-ghost use Rattle.std.specs.Option.{unwrap_or};
-ghost use Rattle.std.specs.Io.{ReadsAtMost, WritesAtMost};
 ghost use Rattle.std.specs.Str.{bytes_eq};
 
 use crate::{Desk, Failed, SizeStop};
@@ -16,17 +13,27 @@ use std::rt::Files;
 use std::{fs, io};
 use xmp_values::{Memory, Words};
 
+/// A file that is open, and the place in it where the next read or write goes.
 #[derive(Drop)]
-pub struct Known {
+struct Handle<F: Drop> {
+    file: F,
+    place: u64,
+    is_writable: bool,
+}
+
+/// A name, the length that was told of it, and its handle once it was opened.
+#[derive(Drop)]
+pub struct Known<F: Drop> {
     name: String,
     len: Option<u64>,
+    handle: Option<Handle<F>>,
 }
 
 /// The files that a list of words names. It tells no bytes.
 #[derive(Drop)]
 pub struct FileDesk<'r, R: Files> {
     rt: &'r R,
-    names: Vec<Known>,
+    names: Vec<Known<R::File>>,
     faults: u64,
     misses: u64,
 }
@@ -39,7 +46,12 @@ impl<'r, R: Files> FileDesk<'r, R> {
                 let Ok(name) = String::from_str(alloc, word) else {
                     return Err(Memory);
                 };
-                if names.push(Known { name, len: None }).is_err() {
+                let known = Known {
+                    name,
+                    len: None,
+                    handle: None,
+                };
+                if names.push(known).is_err() {
                     return Err(Memory);
                 }
             }
@@ -53,12 +65,125 @@ impl<'r, R: Files> FileDesk<'r, R> {
     }
 }
 
+impl<F: Read + Write + Seek + Drop> Handle<F> {
+    fn seek(&mut self, at: u64) -> io::Result<()> {
+        if self.place != at {
+            self.file.seek(SeekFrom::Start(at))?;
+            self.place = at;
+        }
+        Ok(())
+    }
+
+    /// Reads once. The end of the file is a failure.
+    fn read_at(&mut self, at: u64, to: &mut [u8]) -> io::Result<usize>
+        ensures { IfOk result (λ n. (0 < n) × (n ≤ length to.new)) }
+    {
+        self.seek(at)?;
+        let count = self.file.read(to)?;
+        if count == 0 {
+            return Err(io::Error::from(ErrorKind::UnexpectedEof));
+        }
+        self.place = at.saturating_add(count as u64);
+        Ok(count)
+    }
+
+    /// Writes once. A write that takes nothing is a failure.
+    fn write_at(&mut self, at: u64, from: &[u8]) -> io::Result<usize>
+        ensures { IfOk result (λ n. (0 < n) × (n ≤ length from.now)) }
+    {
+        self.seek(at)?;
+        let count = self.file.write(from)?;
+        if count == 0 {
+            return Err(io::Error::from(ErrorKind::WriteZero));
+        }
+        self.file.flush()?;
+        self.place = at.saturating_add(count as u64);
+        Ok(count)
+    }
+}
+
+impl<F: Read + Write + Seek + Drop> Known<F> {
+    /// Reads once. The handle is kept where that succeeds.
+    fn read_at<R: Files<File = F>>(&mut self, rt: &R, at: u64, to: &mut [u8]) -> io::Result<usize>
+        ensures count { IfOk result (λ n. (0 < n) × (n ≤ length to.new)) }
+        ensures same { name_and_len self.new ≡ name_and_len self.old }
+    {
+        let mut handle = match self.handle.take() {
+            Some(handle) => handle,
+            None => Handle {
+                file: File::open(rt, self.name.as_str())?,
+                place: 0,
+                is_writable: false,
+            },
+        };
+        let count = handle.read_at(at, to)?;
+        self.handle = Some(handle);
+        Ok(count)
+    }
+
+    /// Writes once. The handle is kept where that succeeds.
+    fn write_at<R: Files<File = F>>(&mut self, rt: &R, at: u64, from: &[u8]) -> io::Result<usize>
+        ensures count { IfOk result (λ n. (0 < n) × (n ≤ length from.now)) }
+        ensures same { name_and_len self.new ≡ name_and_len self.old }
+    {
+        let mut handle = match self.handle.take() {
+            Some(handle) if handle.is_writable => handle,
+            _ => Handle {
+                file: OpenOptions::new()
+                    .read(true)
+                    .write(true)
+                    .open(rt, self.name.as_str())?,
+                place: 0,
+                is_writable: true,
+            },
+        };
+        let count = handle.write_at(at, from)?;
+        self.handle = Some(handle);
+        Ok(count)
+    }
+
+    /// Makes the file empty.
+    fn create<R: Files<File = F>>(&mut self, rt: &R) -> io::Result<()>
+        ensures same { name_and_len self.new ≡ name_and_len self.old }
+    {
+        self.handle = None;
+        let mut options = OpenOptions::new();
+        options.read(true).write(true).create(true).truncate(true);
+        self.handle = Some(Handle {
+            file: options.open(rt, self.name.as_str())?,
+            place: 0,
+            is_writable: true,
+        });
+        Ok(())
+    }
+}
+
+impl<'r, R: Files> FileDesk<'r, R> {
+    /// Where this name stands among the words.
+    fn place_of(&self, name: &str) -> Option<usize>
+        ensures { result ≡ position (λ known. bytes_eq (string_bytes known.name) name.now) self.now.names.items }
+    {
+        self.names
+            .iter()
+            .position(|known| known.name.as_str() == name)
+    }
+
+    /// Counts a failure.
+    fn fault(&mut self) -> Failed
+        ensures fits { self.old.faults < 2 ^ 64 }
+        ensures counted { self.new ≡ record self.old { faults = min (self.old.faults + 1) (2 ^ 64 - 1) } }
+    {
+        self.faults = self.faults.saturating_add(1);
+        Failed
+    }
+}
+
 impl<'r, R: Files> Desk for FileDesk<'r, R> {
-    ghost state = { λ d. file_state d.names.items d.faults d.misses };
+    ghost state = { λ d. file_state (known_lens d.names.items) d.faults d.misses };
 
     fn size(&mut self, name: &str) -> Result<u64, SizeStop> {
-        let Some(i) = place_of(&self.names, name) else {
-            self.faults = self.faults.saturating_add(1);
+        let Some(i) = self.place_of(name) else {
+            self.fault();
             return Err(SizeStop::Failed);
         };
         match fs::metadata(self.rt, name) {
@@ -72,94 +197,55 @@ impl<'r, R: Files> Desk for FileDesk<'r, R> {
                 Err(SizeStop::Absent)
             }
             Err(_) => {
-                self.faults = self.faults.saturating_add(1);
+                self.fault();
                 Err(SizeStop::Failed)
             }
         }
     }
 
     fn read_at(&mut self, name: &str, at: u64, to: &mut [u8]) -> Result<usize, Failed> {
-        let len = known_len(&self.names, name);
+        let Some(i) = self.place_of(name) else {
+            return Err(self.fault());
+        };
+        let known = &mut self.names[i];
+        let len = known.len.unwrap_or(0);
         let room = len.saturating_sub(at).min(to.len() as u64) as usize;
         if room == 0 {
             return Ok(0);
         }
-        match read_from(self.rt, name, at, &mut to[..room]) {
-            Ok(count) if 0 < count => Ok(count),
-            _ => {
-                self.faults = self.faults.saturating_add(1);
-                Err(Failed)
-            }
+        match known.read_at(self.rt, at, &mut to[..room]) {
+            Ok(count) => Ok(count),
+            Err(_) => Err(self.fault()),
         }
     }
 
     fn create(&mut self, name: &str) -> Result<(), Failed> {
-        let Some(i) = place_of(&self.names, name) else {
-            self.faults = self.faults.saturating_add(1);
-            return Err(Failed);
+        let Some(i) = self.place_of(name) else {
+            return Err(self.fault());
         };
-        match File::create(self.rt, name) {
-            Ok(_file) => {
-                self.names[i].len = Some(0);
-                Ok(())
-            }
-            Err(_) => {
-                self.faults = self.faults.saturating_add(1);
-                Err(Failed)
-            }
+        let known = &mut self.names[i];
+        if known.create(self.rt).is_err() {
+            return Err(self.fault());
         }
+        known.len = Some(0);
+        Ok(())
     }
 
     fn write_at(&mut self, name: &str, at: u64, from: &[u8]) -> Result<usize, Failed> {
         if from.is_empty() {
             return Ok(0);
         }
-        let len = known_len(&self.names, name);
-        let Some(i) = place_of(&self.names, name) else {
-            self.faults = self.faults.saturating_add(1);
-            return Err(Failed);
+        let Some(i) = self.place_of(name) else {
+            return Err(self.fault());
         };
-        match write_to(self.rt, name, at, from) {
-            Ok(count) if 0 < count => {
-                self.names[i].len = Some(len.max(at + count as u64));
+        let known = &mut self.names[i];
+        let len = known.len.unwrap_or(0);
+        match known.write_at(self.rt, at, from) {
+            Ok(count) => {
+                known.len = Some(len.max(at + count as u64));
                 Ok(count)
             }
-            _ => {
-                self.faults = self.faults.saturating_add(1);
-                Err(Failed)
-            }
+            Err(_) => Err(self.fault()),
         }
     }
-}
-
-fn place_of(names: &[Known], name: &str) -> Option<usize>
-    ensures { result ≡ position (λ known. bytes_eq (string_bytes known.name) name.now) names.now }
-{
-    names.iter().position(|known| known.name.as_str() == name)
-}
-
-/// The length that was told of this name.
-fn known_len(names: &[Known], name: &str) -> u64
-    ensures { result ≡ unwrap_or (get (known_lens names.now) name.now) 0 }
-{
-    match place_of(names, name) {
-        Some(i) => names[i].len.unwrap_or(0),
-        None => 0,
-    }
-}
-
-fn read_from<R: Files>(rt: &R, name: &str, at: u64, to: &mut [u8]) -> io::Result<usize>
-    ensures { ReadsAtMost result to.new }
-{
-    let mut file = File::open(rt, name)?;
-    file.seek(SeekFrom::Start(at))?;
-    file.read(to)
-}
-
-fn write_to<R: Files>(rt: &R, name: &str, at: u64, from: &[u8]) -> io::Result<usize>
-    ensures { WritesAtMost result from.now }
-{
-    let mut file = OpenOptions::new().write(true).open(rt, name)?;
-    file.seek(SeekFrom::Start(at))?;
-    file.write(from)
 }

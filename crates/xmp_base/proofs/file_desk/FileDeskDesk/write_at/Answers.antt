@@ -1,26 +1,23 @@
-use Rattle.std.proofs.Common.{List, sym, ap, ◌∙◌, arith}
-use Rattle.std.proofs.lemmas.Bool.{eqb-true}
-use Rattle.std.specs.List.{position}
-use Rattle.std.specs.Option.{unwrap_or}
-use Rattle.std.specs.FinMap.{get}
-use Rattle.xmp_base.specs.FileDesk.{known_lens}
-use Rattle.std.specs.String.{string_bytes}
-use Rattle.std.specs.Str.{bytes_eq}
-use Rattle.xmp_base.specs.declared.file_desk.Known.{Known}
-use Rattle.xmp_base.proofs.OnFiles.{write_told, write_none, write_failed}
+use Rattle.xmp_base.proofs.OnFiles.{found_at, len_is, lens_set, lens_same, write_told, write_none, write_failed}
 use Rattle.xmp_base.proofs.file_desk.FileDeskDesk.write_at.Goals as goal
+use Rattle.std.proofs.Common.{refl, ap, sym, ◌∙◌, ℕ, List, Some}
+use Rattle.std.proofs.lemmas.Bool.{eqb-true}
+use Rattle.std.specs.declared.option.Option.{Option}
 
 pub returns-then-is_empty : goal.returns-then-is_empty
 returns-then-is_empty g c = record { call = write_none _ _ _ _ _ _ c.requires.known c.requires.within (eqb-true _ 0 (sym c.is_empty.ensures ∙ c.if-is_empty.true)) }
 
 pub returns-in_default : goal.returns-in_default
-returns-in_default g c = record { call = write_failed _ _ _ _ _ _ _ _ c.requires.known c.saturating_add-self.ensures (omega arith) }
+returns-in_default g c = rw c.fault.ensures.counted (record { call = write_failed _ _ _ _ _ _ c.requires.known _ _ refl c.fault.ensures.fits })
 
 pub returns-in-Ok : goal.returns-in-Ok
-returns-in-Ok g c = record {
-  call = write_told _ _ _ _ _ _ _ _ _ _ c.index_mut.result.now
-      (c.in-Some.ensures ∙ ap (λ (ks : List Known). position (λ (k : Known). bytes_eq (string_bytes k.name) c.args.name.now) ks) c.deref-2.ensures.value) c.index_mut.ensures.value (c.known_len-len.ensures ∙ ap (λ (ks : List Known). unwrap_or (get (known_lens ks) c.args.name.now) 0) c.deref.ensures.value) c.max.ensures c.in-Ok.ensures c.if-count-gt0.true;
+returns-in-Ok g c = let found = found_at _ _ _ _ c.in-Some.ensures c.index_mut-known.ensures.value in record {
+  call = write_told _ _ _ _ _ _ c.unwrap_or-len.result c.max.result _ _
+      (lens_set _ _ _ _ _ _ found (ap (λ (p : List ℕ × Option ℕ). (p.0, Some c.max.result)) c.write_at.ensures.same)) c.max.ensures
+      (len_is _ _ _ _ _ found c.unwrap_or-len.ensures) c.in-Ok.ensures.count.1 c.in-Ok.ensures.count.0;
 }
 
-pub returns-in_default-write_to : goal.returns-in_default-write_to
-returns-in_default-write_to g c = record { call = write_failed _ _ _ _ _ _ _ _ c.requires.known c.saturating_add-self-in_default-write_to.ensures (omega arith) }
+pub returns-in-Err : goal.returns-in-Err
+returns-in-Err g c = let found = found_at _ _ _ _ c.in-Some.ensures c.index_mut-known.ensures.value in rw c.fault-in-Err.ensures.counted (record {
+  call = write_failed _ _ _ _ _ _ c.requires.known _ _ (lens_same _ _ _ _ _ found c.write_at.ensures.same) c.fault-in-Err.ensures.fits;
+})
