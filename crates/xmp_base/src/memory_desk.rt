@@ -1,33 +1,23 @@
 // Files in memory, on a desk that fails where it is told to.
-ghost use Rattle.std.specs.Prelude.{◌⊎◌, ◌≡◌, ◌<◌, ◌≤◌, ◌==◌, ◌-◌, ◌++◌, IsSome, min, map, take, drop, ◌+◌, ◌^◌, length, cond, IsTrue, IsErr, Ok, Err, ◌/◌, List, ℕ, ◌∷◌, [], OnOk, OnErr};
+ghost use Rattle.std.specs.Prelude.{◌≡◌, ◌<◌, ◌≤◌, ◌-◌, ◌+◌, ◌/◌, ◌^◌, ◌++◌, ◌∷◌, [], ℕ, List, IsTrue, IsSome, IsErr, Ok, Err, OnOk, OnErr, min, map, take, drop, length, cond, slice_get};
 ghost use Rattle.std.specs.List.{position};
 ghost use Rattle.std.specs.Str.{bytes_eq};
 ghost use Rattle.std.specs.String.{string_bytes};
 ghost use Rattle.std.specs.Option.{option_map};
 ghost use Rattle.std.specs.FinMap.{get};
-ghost use Rattle.xmp_base.specs.Device.{put_at, bytes_of};
-ghost use Rattle.xmp_base.specs.Memory.{FailsExactly, Stored, Written, desk_state, failed, files_of, is_planned_next, moved, up};
-ghost use Rattle.xmp_base.specs.Device.{is_known, len_of, SizeCall, WriteCall};
-ghost use Rattle.std.specs.List.{list_any};
+ghost use Rattle.xmp_base.specs.Device.{SizeCall, ReadCall, CreateCall, WriteCall, put_at, bytes_of, is_known, len_of};
+ghost use Rattle.xmp_base.specs.Memory.{Creates, FailsExactly, Reads, Stored, Tears, Writes, desk_state, files_of, is_planned_next, moved, new_desk, noted, put_into, read_count, size_after, size_answer, up};
 
 use crate::{Desk, Failed, SizeStop};
 use std::alloc::{AllocError, Global};
 use std::marker::Model;
 use xmp_values::Memory;
 
-#[derive(Drop)]
-pub struct Entry {
-    name: String,
-    bytes: Vec<u8>,
-}
-
-#[derive(Drop)]
-pub struct Move {
-    name: String,
-    place: u64,
-    count: u64,
-}
-
+/// Files in memory that tell all that is done with them.
+///
+/// Each call of the trait counts as one, from 1. A call fails exactly where its number is planned
+/// or its growth is refused, and `wants` counts the latter. A write that is planned to fail first
+/// puts half of its piece, rounded down; any other failure changes no file.
 #[derive(Drop)]
 pub struct MemoryDesk {
     alloc: Global,
@@ -40,6 +30,20 @@ pub struct MemoryDesk {
     wants: u64,
     faults: u64,
     misses: u64,
+}
+
+#[derive(Drop)]
+pub struct Entry {
+    name: String,
+    bytes: Vec<u8>,
+}
+
+/// What one read or write moved.
+#[derive(Drop)]
+pub struct Move {
+    name: String,
+    place: u64,
+    count: u64,
 }
 
 impl Model for MemoryDesk {
@@ -64,17 +68,10 @@ impl Model for MemoryDesk {
     ghost invariant = { λ d. (0 < d.most) × (d.plan.items ≡ [] → d.faults ≡ d.wants) };
 }
 
-/// The place of the first file of this name.
-fn place_of(files: &[Entry], name: &str) -> Option<usize>
-    ensures { result ≡ position (λ e. bytes_eq (string_bytes e.name) name.now) files.now }
-{
-    files.iter().position(|e| e.name.as_str() == name)
-}
-
 impl MemoryDesk {
+    /// A desk without files, which fails at no call and cuts no move.
     pub fn new(alloc: Global) -> MemoryDesk
-        ensures files { result.files ≡ [] }
-        ensures plan { result.plan ≡ [] }
+        ensures { result ≡ new_desk }
     {
         MemoryDesk {
             alloc,
@@ -90,35 +87,32 @@ impl MemoryDesk {
         }
     }
 
-    /// Puts in a file. At an error nothing has changed.
+    /// Puts in a file, in the place of the one that has its name. It counts as no call.
+    ///
+    /// # Errors
+    /// `Memory`; then nothing has changed.
     pub fn add(&mut self, name: &str, bytes: &[u8]) -> Result<(), Memory>
-        ensures ok { OnOk result (self.new ≡ record self.old { files = self.old.files ++ (name.now, bytes.now) ∷ [] }) }
+        ensures ok { OnOk result (Stored self.old self.new name.now bytes.now) }
         ensures err { OnErr result (self.new ≡ self.old) }
     {
-        let Ok(name) = String::from_str(self.alloc, name) else {
-            return Err(Memory);
-        };
-        let Ok(bytes) = bytes.to_vec(self.alloc) else {
-            return Err(Memory);
-        };
-        match self.files.push(Entry { name, bytes }) {
-            Ok(()) => Ok(()),
-            Err(_) => Err(Memory),
-        }
+        let bytes = bytes.to_vec(self.alloc)?;
+        self.put_file(name, bytes)?;
+        Ok(())
     }
 
-    /// Plans that the call of this number, from 1, fails.
+    /// Plans that the call of this number, from 1, fails. A number of the past plans nothing.
+    ///
+    /// # Errors
+    /// `Memory`; then nothing has changed.
     pub fn fail(&mut self, call: u64) -> Result<(), Memory>
         ensures ok { OnOk result (self.new ≡ record self.old { plan = self.old.plan ++ call ∷ [] }) }
         ensures err { OnErr result (self.new ≡ self.old) }
     {
-        match self.plan.push(call) {
-            Ok(()) => Ok(()),
-            Err(_) => Err(Memory),
-        }
+        self.plan.push(call)?;
+        Ok(())
     }
 
-    /// Lets a read move at most so many bytes.
+    /// From now on a read or a write moves at most so many bytes.
     pub fn cut(&mut self, most: u64)
         requires { 0 < most }
         ensures { self.new ≡ record self.old { most = most } }
@@ -126,9 +120,29 @@ impl MemoryDesk {
         self.most = most;
     }
 
+    /// The bytes of the file of this name, if there is one.
+    pub fn bytes_of(&self, name: &str) -> Option<&[u8]>
+        ensures { option_map (λ bytes. bytes.now) result ≡ get (files_of self.now.files) name.now }
+    {
+        let files = self.files.as_slice();
+        match place_of(files, name) {
+            Some(entry) => Some(files[entry].bytes.as_slice()),
+            None => None,
+        }
+    }
+
+    /// The place and the number of bytes of the write of this index, from 0, if there were so many.
+    pub fn wrote_at(&self, i: usize) -> Option<(u64, u64)>
+        ensures { result ≡ option_map (λ move. (move.1, move.2)) (slice_get self.now.wrote i) }
+    {
+        let wrote = self.wrote.get(i)?;
+        Some((wrote.place, wrote.count))
+    }
+
+    /// How many calls were refused memory.
     pub fn wants(&self) -> u64
         ensures value { result ≡ self.now.wants }
-        // where no failure is planned, each failure was a want of memory
+        // Where no failure is planned, each failure was a want of memory.
         ensures unplanned { self.now.plan ≡ [] → self.now.faults ≡ self.now.wants }
     {
         self.wants
@@ -143,150 +157,6 @@ impl MemoryDesk {
         let _ = (self.faults, self.misses, self.wants);
         self.calls = self.calls.saturating_add(1);
         self.plan.contains(&self.calls)
-    }
-
-    /// The bytes of the file of this name.
-    pub fn bytes_of(&self, name: &str) -> Option<&[u8]>
-        ensures { option_map (λ bytes. bytes.now) result ≡ get (files_of self.now.files) name.now }
-    {
-        let files = self.files.as_slice();
-        match place_of(files, name) {
-            Some(i) => Some(files[i].bytes.as_slice()),
-            None => None,
-        }
-    }
-
-    /// How many bytes a read moves.
-    fn count_at(&self, name: &str, at: u64, room: usize) -> usize
-        ensures value { result ≡ min (min (length (bytes_of (files_of self.now.files) name.now) - at) room) self.now.most }
-        ensures most { 0 < self.now.most }
-    {
-        let size = match self.bytes_of(name) {
-            Some(bytes) => bytes.len(),
-            None => 0,
-        };
-        let left = (size as u64).saturating_sub(at);
-        left.min(room as u64).min(self.most) as usize
-    }
-
-    /// Records a read. At an error nothing has changed.
-    fn note_read(&mut self, name: &str, at: u64, count: u64) -> Result<(), AllocError>
-        ensures ok { OnOk result (self.new ≡ record self.old { reads = self.old.reads ++ (name.now, at, count) ∷ [] }) }
-        ensures err { OnErr result (self.new ≡ self.old) }
-    {
-        note(self.alloc, &mut self.reads, name, at, count)
-    }
-
-    /// Copies bytes of a file.
-    fn copy_at(&self, name: &str, at: u64, to: &mut [u8])
-        requires { length to.old ≤ length (bytes_of (files_of self.now.files) name.now) - at }
-        ensures { to.new ≡ take (length to.old) (drop at (bytes_of (files_of self.now.files) name.now)) }
-    {
-        if to.is_empty() {
-            return;
-        }
-        if let Some(bytes) = self.bytes_of(name) {
-            let at = at as usize;
-            to.copy_from_slice(&bytes[at..at + to.len()]);
-        }
-    }
-
-    /// Makes a file of this name empty. At an error nothing has changed.
-    fn empty_file(&mut self, name: &str) -> Result<(), AllocError>
-        ensures ok { OnOk result (Stored self.old self.new name.now []) }
-        ensures err { OnErr result (self.new ≡ self.old) }
-    {
-        match place_of(&self.files, name) {
-            Some(i) => {
-                let file = &mut self.files[i];
-                file.bytes.clear();
-                Ok(())
-            }
-            None => {
-                let name = String::from_str(self.alloc, name)?;
-                let bytes = Vec::new(self.alloc);
-                self.files.push(Entry { name, bytes })?;
-                Ok(())
-            }
-        }
-    }
-
-    /// Puts a piece into a file. At an error nothing has changed.
-    fn put_in_file(&mut self, name: &str, at: u64, piece: &[u8]) -> Result<(), AllocError>
-        requires known { IsSome (get (files_of self.old.files) name.now) }
-        requires within { at ≤ length (bytes_of (files_of self.old.files) name.now) }
-        ensures ok { OnOk result (Stored self.old self.new name.now (put_at (bytes_of (files_of self.old.files) name.now) at piece.now)) }
-        ensures err { OnErr result (self.new ≡ self.old) }
-    {
-        match place_of(&self.files, name) {
-            Some(i) => {
-                let file = &mut self.files[i];
-                put(&mut file.bytes, at as usize, piece)?;
-                Ok(())
-            }
-            None => Ok(()),
-        }
-    }
-
-    /// Records a write. At an error nothing has changed.
-    fn note_write(&mut self, name: &str, at: u64, count: u64) -> Result<(), AllocError>
-        ensures ok { OnOk result (self.new ≡ record self.old { wrote = self.old.wrote ++ (name.now, at, count) ∷ [] }) }
-        ensures err { OnErr result (self.new ≡ self.old) }
-    {
-        note(self.alloc, &mut self.wrote, name, at, count)
-    }
-
-    /// Takes the last record of a write back.
-    fn forget_write(&mut self)
-        ensures { self.new ≡ record self.old { wrote = take (length self.old.wrote - 1) self.old.wrote } }
-    {
-        let _ = self.wrote.pop();
-    }
-
-    /// Records a write and puts its bytes into the file. At an error nothing has changed.
-    fn write_noted(
-        &mut self,
-        name: &str,
-        at: u64,
-        piece: &[u8],
-        noted: u64,
-    ) -> Result<(), AllocError>
-        requires known { IsSome (get (files_of self.old.files) name.now) }
-        requires within { at ≤ length (bytes_of (files_of self.old.files) name.now) }
-        ensures ok { OnOk result (Stored (record self.old { wrote = self.old.wrote ++ (name.now, at, noted) ∷ [] }) self.new name.now (put_at (bytes_of (files_of self.old.files) name.now) at piece.now)) }
-        ensures err { OnErr result (self.new ≡ self.old) }
-    {
-        self.note_write(name, at, noted)?;
-        match self.put_in_file(name, at, piece) {
-            Ok(()) => Ok(()),
-            Err(refused) => {
-                self.forget_write();
-                Err(refused)
-            }
-        }
-    }
-
-    /// How many bytes a write of a piece of this length puts into the file.
-    fn put_count(&self, planned: bool, length: usize) -> usize
-        ensures value { result ≡ cond planned (length / 2) (min length self.now.most) }
-        ensures most { 0 < self.now.most }
-    {
-        let most = (length as u64).min(self.most) as usize;
-        if planned { length / 2 } else { most }
-    }
-
-    /// Ends a call that moved so many bytes: as a failure where it was planned to fail.
-    fn end(&mut self, planned: bool, count: usize) -> Result<usize, Failed>
-        requires { IsTrue planned → 0 < length self.old.plan }
-        ensures after { self.new ≡ record self.old { faults = cond planned (up self.old.faults) self.old.faults } }
-        ensures answer { result ≡ cond planned (Err failed) (Ok count) }
-    {
-        if planned {
-            self.fault();
-            Err(Failed)
-        } else {
-            Ok(count)
-        }
     }
 
     /// Counts a planned failure.
@@ -314,6 +184,143 @@ impl MemoryDesk {
         self.faults = self.faults.saturating_add(1);
         self.wants = self.wants.saturating_add(1);
     }
+
+    /// How many bytes a read into a slice of this length moves.
+    fn read_count(&self, name: &str, at: u64, room: usize) -> usize
+        ensures value { result ≡ read_count self.now name.now at room }
+        ensures most { 0 < self.now.most }
+    {
+        let length = match self.bytes_of(name) {
+            Some(bytes) => bytes.len(),
+            None => 0,
+        };
+        let left = (length as u64).saturating_sub(at);
+        left.min(room as u64).min(self.most) as usize
+    }
+
+    /// How many bytes of a piece of this length a write moves.
+    fn write_count(&self, length: usize) -> usize
+        ensures value { result ≡ min length self.now.most }
+        ensures most { 0 < self.now.most }
+    {
+        (length as u64).min(self.most) as usize
+    }
+
+    /// Notes a read. At an error nothing has changed.
+    fn note_read(&mut self, name: &str, at: u64, count: u64) -> Result<(), AllocError>
+        ensures ok { OnOk result (self.new ≡ record self.old { reads = self.old.reads ++ (name.now, at, count) ∷ [] }) }
+        ensures err { OnErr result (self.new ≡ self.old) }
+    {
+        note(self.alloc, &mut self.reads, name, at, count)
+    }
+
+    /// Notes a write. At an error nothing has changed.
+    fn note_write(&mut self, name: &str, at: u64, count: u64) -> Result<(), AllocError>
+        ensures ok { OnOk result (self.new ≡ noted self.old name.now at count) }
+        ensures err { OnErr result (self.new ≡ self.old) }
+    {
+        note(self.alloc, &mut self.wrote, name, at, count)
+    }
+
+    /// Takes the last note of a write back.
+    fn forget_write(&mut self)
+        ensures { self.new ≡ record self.old { wrote = take (length self.old.wrote - 1) self.old.wrote } }
+    {
+        let _ = self.wrote.pop();
+    }
+
+    /// Copies bytes of a file.
+    fn copy_at(&self, name: &str, at: u64, to: &mut [u8])
+        requires { length to.old ≤ length (bytes_of (files_of self.now.files) name.now) - at }
+        ensures { to.new ≡ take (length to.old) (drop at (bytes_of (files_of self.now.files) name.now)) }
+    {
+        if to.is_empty() {
+            return;
+        }
+        if let Some(bytes) = self.bytes_of(name) {
+            let at = at as usize;
+            to.copy_from_slice(&bytes[at..at + to.len()]);
+        }
+    }
+
+    /// Puts in a file, in the place of the one that has its name. At an error nothing has changed.
+    fn put_file(&mut self, name: &str, bytes: Vec<u8>) -> Result<(), AllocError>
+        ensures ok { OnOk result (Stored self.old self.new name.now bytes.items) }
+        ensures err { OnErr result (self.new ≡ self.old) }
+    {
+        match place_of(&self.files, name) {
+            Some(entry) => {
+                self.files[entry].bytes = bytes;
+                Ok(())
+            }
+            None => {
+                let name = String::from_str(self.alloc, name)?;
+                self.files.push(Entry { name, bytes })?;
+                Ok(())
+            }
+        }
+    }
+
+    /// Puts a piece into a file. At an error nothing has changed.
+    fn put_in_file(&mut self, name: &str, at: u64, piece: &[u8]) -> Result<(), AllocError>
+        requires known { IsSome (get (files_of self.old.files) name.now) }
+        requires within { at ≤ length (bytes_of (files_of self.old.files) name.now) }
+        ensures ok { OnOk result (Stored self.old self.new name.now (put_into self.old name.now at piece.now)) }
+        ensures err { OnErr result (self.new ≡ self.old) }
+    {
+        match place_of(&self.files, name) {
+            Some(i) => {
+                let file = &mut self.files[i];
+                put(&mut file.bytes, at as usize, piece)?;
+                Ok(())
+            }
+            None => Ok(()),
+        }
+    }
+
+    /// Notes a write of `count` bytes and puts a piece into the file. At an error nothing has changed.
+    fn write_noted(
+        &mut self,
+        name: &str,
+        at: u64,
+        piece: &[u8],
+        count: u64,
+    ) -> Result<(), AllocError>
+        requires known { IsSome (get (files_of self.old.files) name.now) }
+        requires within { at ≤ length (bytes_of (files_of self.old.files) name.now) }
+        ensures ok { OnOk result (Stored (noted self.old name.now at count) self.new name.now (put_into self.old name.now at piece.now)) }
+        ensures err { OnErr result (self.new ≡ self.old) }
+    {
+        self.note_write(name, at, count)?;
+        match self.put_in_file(name, at, piece) {
+            Ok(()) => Ok(()),
+            Err(refused) => {
+                self.forget_write();
+                Err(refused)
+            }
+        }
+    }
+
+    /// Ends a write that is planned to fail: half of its piece is put in, unless its growth is refused.
+    fn tear(&mut self, name: &str, at: u64, piece: &[u8])
+        requires planned { 0 < length self.old.plan }
+        requires known { IsSome (get (files_of self.old.files) name.now) }
+        requires within { at ≤ length (bytes_of (files_of self.old.files) name.now) }
+        ensures { Tears self.old self.new name.now at piece.now }
+    {
+        let half = &piece[..piece.len() / 2];
+        match self.write_noted(name, at, half, piece.len() as u64) {
+            Ok(()) => self.fault(),
+            Err(_) => self.want(),
+        }
+    }
+}
+
+/// The place of the first file of this name.
+fn place_of(files: &[Entry], name: &str) -> Option<usize>
+    ensures { result ≡ position (λ e. bytes_eq (string_bytes e.name) name.now) files.now }
+{
+    files.iter().position(|file| file.name.as_str() == name)
 }
 
 /// Adds a move to the end of a list of them. At an error nothing has changed.
@@ -344,20 +351,14 @@ fn put(bytes: &mut Vec<u8>, at: usize, piece: &[u8]) -> Result<(), AllocError>
     Ok(())
 }
 
-/// How many bytes of a piece a write notes: all of one that is planned to fail.
-fn noted_count(planned: bool, length: usize, count: usize) -> usize
-    ensures { result ≡ cond planned length count }
-{
-    if planned { length } else { count }
-}
-
 impl Desk for MemoryDesk {
     ghost state = { desk_state };
 
     fn size(&mut self, name: &str) -> Result<u64, SizeStop>
         ensures call { SizeCall (desk_state self.old) (desk_state self.new) name.now result }
-        ensures plan { self.new.plan ≡ self.old.plan }
-        ensures failed { result ≡ Err SizeStop.Failed → IsTrue (is_planned_next self.old) }
+        ensures answer { result ≡ size_answer self.old name.now }
+        ensures after { self.new ≡ size_after self.old name.now }
+        ensures fails { FailsExactly (is_planned_next self.old) self.old.wants self.new.wants (result ≡ Err SizeStop.Failed) }
     {
         if self.is_planned() {
             self.fault();
@@ -372,12 +373,17 @@ impl Desk for MemoryDesk {
         }
     }
 
-    fn read_at(&mut self, name: &str, at: u64, to: &mut [u8]) -> Result<usize, Failed> {
+    fn read_at(&mut self, name: &str, at: u64, to: &mut [u8]) -> Result<usize, Failed>
+        requires { IsTrue (is_known (desk_state self.old) name.now) }
+        ensures call { ReadCall (desk_state self.old) (desk_state self.new) name.now at to.new result }
+        ensures after { Reads self.old self.new name.now at to.old to.new result }
+        ensures fails { FailsExactly (is_planned_next self.old) self.old.wants self.new.wants (IsErr result) }
+    {
         if self.is_planned() {
             self.fault();
             return Err(Failed);
         }
-        let count = self.count_at(name, at, to.len());
+        let count = self.read_count(name, at, to.len());
         match self.note_read(name, at, count as u64) {
             Ok(()) => {
                 self.copy_at(name, at, &mut to[..count]);
@@ -390,12 +396,17 @@ impl Desk for MemoryDesk {
         }
     }
 
-    fn create(&mut self, name: &str) -> Result<(), Failed> {
+    fn create(&mut self, name: &str) -> Result<(), Failed>
+        ensures call { CreateCall (desk_state self.old) (desk_state self.new) name.now result }
+        ensures after { Creates self.old self.new name.now result }
+        ensures fails { FailsExactly (is_planned_next self.old) self.old.wants self.new.wants (IsErr result) }
+    {
         if self.is_planned() {
             self.fault();
             return Err(Failed);
         }
-        match self.empty_file(name) {
+        let empty = Vec::new(self.alloc);
+        match self.put_file(name, empty) {
             Ok(()) => Ok(()),
             Err(_) => {
                 self.want();
@@ -409,14 +420,16 @@ impl Desk for MemoryDesk {
         requires within { at ≤ len_of (desk_state self.old) name.now }
         requires room { at + length from.now < 2 ^ 64 }
         ensures call { WriteCall (desk_state self.old) (desk_state self.new) name.now at from.now result }
-        ensures after { Written self.old self.new name.now at from.now result }
+        ensures after { Writes self.old self.new name.now at from.now result }
         ensures fails { FailsExactly (is_planned_next self.old) self.old.wants self.new.wants (IsErr result) }
     {
-        let planned = self.is_planned();
-        let count = self.put_count(planned, from.len());
-        let noted = noted_count(planned, from.len(), count);
-        match self.write_noted(name, at, &from[..count], noted as u64) {
-            Ok(()) => self.end(planned, count),
+        if self.is_planned() {
+            self.tear(name, at, from);
+            return Err(Failed);
+        }
+        let count = self.write_count(from.len());
+        match self.write_noted(name, at, &from[..count], count as u64) {
+            Ok(()) => Ok(count),
             Err(_) => {
                 self.want();
                 Err(Failed)
