@@ -34,9 +34,9 @@ abbrev Key : Type 0
 Key = Bor (List ℕ) × Bor (List ℕ)
 
 abbrev name_at : Key → Name
-name_at key = named key.0.now key.1.now
+name_at key = named key.1.now key.0.now
 
--- the order of the keys: by namespaces, then by local parts
+-- the order of the keys: by local parts, then by namespaces
 abbrev key_cmp : Key → Key → Ordering
 key_cmp x y = ordering_then (slice_cmp nat_cmp x.0.now y.0.now) (slice_cmp nat_cmp x.1.now y.1.now)
 
@@ -46,9 +46,9 @@ bytes_tied xs ys e = ap (slice_cmp nat_cmp xs) (sym e) ∙ tied_itself nat_list_
 ties : (x y : Key) → (key_cmp x y ≡ Equal) ↔ (name_at x ≡ name_at y)
 ties x y = (
   λ e. let same = exact_pairs (slice_cmp nat_cmp) (slice_cmp nat_cmp) exact_bytes exact_bytes (x.0.now, x.1.now) (y.0.now, y.1.now) e in
-      ap (λ p. named p.0 p.1) same,
-  λ e. ap (λ o. ordering_then o (slice_cmp nat_cmp x.1.now y.1.now)) (bytes_tied x.0.now y.0.now (ap (λ n. n.space) e)) ∙
-      bytes_tied x.1.now y.1.now (ap (λ n. n.local) e),
+      ap (λ p. named p.1 p.0) same,
+  λ e. ap (λ o. ordering_then o (slice_cmp nat_cmp x.1.now y.1.now)) (bytes_tied x.0.now y.0.now (ap (λ n. n.local) e)) ∙
+      bytes_tied x.1.now y.1.now (ap (λ n. n.space) e),
 )
 
 -- a key that compares as one of the set names one of its names

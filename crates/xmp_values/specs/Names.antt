@@ -10,9 +10,9 @@ use Rattle.xmp_values.specs.contracts.text.Name as the_name
 abbrev pub named : List ℕ → List ℕ → Name
 named space local = record { space = space; local = local }
 
--- the names behind pairs of borrowed bytes
+-- the names behind pairs of a local part and a namespace
 abbrev pub names_of : List (Bor (List ℕ) × Bor (List ℕ)) → List Name
-names_of = map (λ key. named key.0.now key.1.now)
+names_of = map (λ key. named key.1.now key.0.now)
 
 abbrev pub names_code : Coded (List Name)
 names_code = coded_list (the_name.the_row record { mir = the_named 1; lft = [] }).coded

@@ -12,6 +12,7 @@ use std::marker::Model;
 /// is the list of its names, in an order of its own. A look-up costs the logarithm of their number.
 #[derive(Drop)]
 pub struct NameSet<'n> {
+    // The local part comes first: it alone tells most names apart.
     keys: BTreeSet<(&'n [u8], &'n [u8])>,
 }
 
@@ -43,7 +44,7 @@ impl<'n> NameSet<'n> {
         ensures holds { OnOk result ((n : Name) → Contains self.new n ↔ (Contains self.old n ⊎ (n ≡ named space.now local.now))) }
         ensures err { OnErr result (self.new ≡ self.old) }
     {
-        let is_new = self.keys.insert((space, local))?;
+        let is_new = self.keys.insert((local, space))?;
         Ok(is_new)
     }
 }
