@@ -1,6 +1,6 @@
 -- Sets of names, by the keys that stand for them.
-use Rattle.std.proofs.Common.{◌≡◌, ◌⊎◌, ◌↔◌, ℕ, List, [], ◌∷◌, Bool, true, Bor, refl, sym, ap, subst, ◌∙◌, inl, inr, ⊎_elim, arith}
-use Rattle.std.specs.Prelude.{Contains, not, IsTrue}
+use Rattle.std.proofs.Common.{◌≡◌, ◌⊎◌, ◌↔◌, ℕ, ◌+◌, ◌<◌, length, get_or, List, [], ◌∷◌, Bool, true, false, Bor, refl, sym, ap, subst, ◌∙◌, inl, inr, ⊎_elim, arith}
+use Rattle.std.specs.Prelude.{Contains, not, MatchBool}
 use Rattle.std.specs.List.{list_any}
 use Rattle.std.specs.declared.cmp.Ordering.{Ordering}
 use Rattle.std.specs.declared.cmp.Ordering.TheVariants.{Less, Equal, Greater}
@@ -9,7 +9,8 @@ use Rattle.std.specs.Cmp.{Equal-is}
 use Rattle.std.specs.Cmp.Lexicographic.{slice_cmp}
 use Rattle.std.specs.BTreeMap.{is_at}
 use Rattle.std.specs.BTreeSet.{insert_key}
-use Rattle.std.proofs.lemmas.Bool.{or_cases, or_left, or_right, both_ways, cases_Bool}
+use Rattle.std.proofs.lemmas.Bool.{or_cases, or_left, or_right, both_ways, not-false, cases_lt}
+use Rattle.std.proofs.lemmas.List.{get_or_default}
 use Rattle.std.proofs.lemmas.Cmp.{nat_list_cmp_total, tied_itself}
 use Rattle.std.proofs.lemmas.List.Elements.{Contains-append_cases, Contains-append_right, Contains-push_cases}
 use Rattle.std.proofs.lemmas.Map.Lookups.{exact_bytes, exact_pairs}
@@ -102,18 +103,70 @@ added : (k : Key) (ks : List Key) → Adds ks k (insert_key key_cmp ks k)
 added k [] = added_front k []
 added k (x ∷ xs) = placed k x xs (key_cmp k x) refl (added k xs)
 
+answered : (answer here : Bool) (P : Type 0) → answer ≡ not here → (here ≡ true → P) → (P → here ≡ true) → MatchBool answer (P → ⊥) P
+answered true here P e found held = λ p. both_ways true (e ∙ ap not (held p)) refl
+answered false here P e found held = found (not-false here (sym e))
+
 -- what a set answers of a key, and holds with it
 module _ (k : Key) (ks : List Key) (names : List Name) (seen : names_of ks ≡ names) where
-  pub is_new : (answer : Bool) → answer ≡ not (list_any (is_at (key_cmp k)) ks) → IsTrue answer ↔ (Contains names (name_at k) → ⊥)
-  is_new answer e = (
-    λ new held. both_ways answer (e ∙ ap not ((found k ks).1 (subst (λ ns. Contains ns (name_at k)) (sym seen) held))) new,
-    λ none. ⊎_elim
-        (λ here. absurd (none (subst (λ ns. Contains ns (name_at k)) seen ((found k ks).0 here))))
-        (λ free. e ∙ ap not free)
-        (cases_Bool (list_any (is_at (key_cmp k)) ks)),
-  )
+  pub is_new : (answer : Bool) → answer ≡ not (list_any (is_at (key_cmp k)) ks) → MatchBool answer (Contains names (name_at k) → ⊥) (Contains names (name_at k))
+  is_new answer e =
+      let held : list_any (is_at (key_cmp k)) ks ≡ true → Contains names (name_at k) =
+      λ here. subst (λ ns. Contains ns (name_at k)) seen ((found k ks).0 here) in
+      let free : Contains names (name_at k) → list_any (is_at (key_cmp k)) ks ≡ true =
+      λ h. (found k ks).1 (subst (λ ns. Contains ns (name_at k)) (sym seen) h) in
+      answered answer (list_any (is_at (key_cmp k)) ks) (Contains names (name_at k)) e held free
 
   pub holds : (more : List Key) → more ≡ insert_key key_cmp ks k → (n : Name) → Contains (names_of more) n ↔ (Contains names n ⊎ (n ≡ name_at k))
   holds more e n =
       let adds = subst (λ ms. Contains (names_of ms) n ↔ (Contains (names_of ks) n ⊎ (n ≡ name_at k))) (sym e) (added k ks n) in
       subst (λ ns. Contains (names_of more) n ↔ (Contains ns n ⊎ (n ≡ name_at k))) seen adds
+
+pub named_same : (n m : Name) (space local : List ℕ) → space ≡ n.space → local ≡ n.local → n ≡ m → named space local ≡ m
+named_same n m space local p q e = let parts : named space local ≡ n = λ i. named (p i) (q i) in parts ∙ e
+
+-- Items whose names differ, seen one by one.
+module _ {T : Type 0} (name : T → Name) (items : List T) where
+  -- the name of one of the first i items
+  abbrev pub IsSeen : ℕ → Name → Type 0
+  IsSeen i n = (k : ℕ) × (k < i) × ((d : T) → name (get_or items k d) ≡ n)
+
+  -- the names of the first i items differ
+  abbrev pub ApartBelow : ℕ → Type 0
+  ApartBelow i = (j k : ℕ) (d : T) → j < k → k < i → name (get_or items j d) ≡ name (get_or items k d) → ⊥
+
+  abbrev pub Sees : List Name → ℕ → Type 0
+  Sees seen i = (n : Name) → Contains seen n ↔ IsSeen i n
+
+  pub sees_none : Sees [] 0
+  sees_none n = (λ h. absurd (contains_nil n h), λ h. absurd (omega arith))
+
+  module _ (i : ℕ) (x : T) (within : i < length items) (here : x ≡ get_or items i x) (key : Name) (keyed : key ≡ name x) where
+    at_here : (k : ℕ) (d : T) → k ≡ i → name (get_or items k d) ≡ key
+    at_here k d e = ap (λ j. name (get_or items j d)) e ∙ ap name (get_or_default items i d x within ∙ sym here) ∙ sym keyed
+
+    pub sees_more : (seen more : List Name) → Sees seen i →
+        ((n : Name) → Contains more n ↔ (Contains seen n ⊎ (n ≡ key))) → Sees more (i + 1)
+    sees_more seen more old adds n = (
+      λ h. ⊎_elim
+          (λ before. let k = (old n).0 before in (k.0, omega arith, k.2))
+          (λ e. (i, omega arith, λ d. at_here i d refl ∙ sym e))
+          ((adds n).0 h),
+      λ h. (adds n).1 (⊎_elim
+          (λ below. inl ((old n).1 (h.0, below, h.2)))
+          (λ past. let at : h.0 ≡ i = omega arith in inr (sym (h.2 x) ∙ at_here h.0 x at))
+          (cases_lt h.0 i)),
+    )
+
+    pub apart_more : (seen : List Name) → Sees seen i → (Contains seen key → ⊥) → ApartBelow i → ApartBelow (i + 1)
+    apart_more seen old new apart j k d lt le same = ⊎_elim
+        (λ below. apart j k d lt below same)
+        (λ past.
+        let at : k ≡ i = omega arith in
+        let early : j < length items = omega arith in
+        new ((old key).1 (j, omega arith, λ e. ap name (get_or_default items j e d early) ∙ same ∙ at_here k d at)))
+        (cases_lt k i)
+
+    pub apart_not : (seen : List Name) → Sees seen i → Contains seen key → ApartBelow (length items) → ⊥
+    apart_not seen old held apart =
+        let k = (old key).0 held in apart k.0 i x k.1 within (k.2 x ∙ keyed ∙ ap name here)

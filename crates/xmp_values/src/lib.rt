@@ -22,7 +22,7 @@ pub use digits::Digits;
 pub use faults::{Fault, Part, Place};
 pub use hints::{Hint, Hints};
 pub use memory::Memory;
-pub use names::NameSet;
+pub use names::{NameSet, Named, names_differ};
 pub use rules::Rule;
 pub use sequence::Sequence;
 pub use span::Span;
