@@ -1,2 +1,4 @@
 pub mod LineLaws
 pub mod PlainLaws
+pub mod BodyLaws
+pub mod NameLaws

@@ -5,6 +5,7 @@
 //! on `xml_grammar` and `xmp_values`. XML 1.0 (fifth edition); ISO 16684-1, section 7.
 #![tactic(auto)]
 
+mod apart;
 mod lines;
 
 pub use xml_grammar::{Attribute, Attributes, Child, Children, Element};

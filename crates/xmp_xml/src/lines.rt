@@ -3,15 +3,17 @@
 //! ```text
 //! <dc: | name | > | text | </dc: | name | > LF
 //! ```
-ghost use Rattle.std.specs.Prelude.{◌≡◌, ◌+◌, length, drop, map, IfOk, MatchOption, option_map, option_and_then};
+ghost use Rattle.std.specs.Prelude.{◌≡◌, ◌+◌, ◌<◌, ◌^◌, length, drop, map, IfOk, IfSome, option_map};
 ghost use Rattle.std.specs.Option.{option_copied};
 ghost use Rattle.std.specs.List.{take_while};
-ghost use Rattle.xmp_xml.specs.Plain.{is_letter, is_plain, behind, head, foot, opening, tag_end, closed, named_line, first_line};
-ghost use Rattle.xmp_xml.specs.Lines.{seen};
+ghost use Rattle.xmp_xml.specs.Plain.{is_letter, is_plain, behind, head, foot, opening, tag_end, closed, named_line, first_line, properties};
+ghost use Rattle.xmp_xml.specs.Lines.{seen, property_of, placed};
 
-use xmp_values::Text;
+use std::alloc::Global;
+use xmp_values::{Memory, Sequence, Text};
 
 /// Where a line ends, and what it says.
+#[derive(Clone, Copy)]
 pub struct FirstLine<'p> {
     pub name: &'p [u8],
     pub text: &'p [u8],
@@ -142,4 +144,31 @@ pub fn first_line(text: &[u8]) -> Option<FirstLine<'_>>
     ensures { option_map seen result ≡ first_line text.now }
 {
     named_line(behind_opening(text)?)
+}
+
+/// The lines of properties before the foot, the first of which begins at `start`. Their names
+/// may be the same.
+pub fn body_lines<'p>(
+    alloc: Global,
+    body: &'p [u8],
+    start: u64,
+) -> Result<Option<Sequence<Line<'p>>>, Memory>
+    requires { start + length body.now < 2 ^ 64 }
+    ensures read { IfOk result (λ found. option_map (map property_of) found ≡ properties (length body.now) body.now) }
+    ensures placed { IfOk result (λ found. IfSome found (λ lines. lines ≡ placed start (map property_of lines))) }
+{
+    let mut lines = Sequence::new(alloc);
+    let mut rest = body;
+    while rest != foot() {
+        let Some(line) = first_line(rest) else {
+            return Ok(None);
+        };
+        lines.push(Line {
+            at: start + (body.len() - rest.len()) as u64,
+            name: Text::raw(line.name),
+            text: Text::raw(line.text),
+        })?;
+        rest = line.rest;
+    }
+    Ok(Some(lines))
 }
