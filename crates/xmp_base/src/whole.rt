@@ -7,15 +7,24 @@ use crate::{Desk, Failed, SizeStop};
 use std::alloc::Global;
 use xmp_values::Bytes;
 
+/// Why a file isn't read whole.
 #[derive(Clone, Copy, Debug, PartialEq, Eq)]
 pub enum ReadStop {
+    /// There is no file of this name. The desk's count of misses rose.
     Absent,
+    /// The file has so many bytes, which is over the limit.
     TooLarge(u64),
+    /// The desk failed. Its count of faults rose.
     Device,
+    /// There was no memory for a file within the limit.
     Memory,
 }
 
 /// The bytes of a file of at most `limit` bytes.
+///
+/// Asks for the length first, and then reads each byte once, from the first on. Where several
+/// answers are due the first of `ReadStop` that holds is given, but a failure of the desk comes at
+/// the call that failed. Changes no file, and reads of no other name.
 pub fn read_all<D: Desk>(
     alloc: Global,
     desk: &mut D,

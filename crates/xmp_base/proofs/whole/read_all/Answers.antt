@@ -26,4 +26,6 @@ returns-in-Ok-fill g c =
     }
 
 pub returns-in-Err : goal.returns-in-Err
-returns-in-Err g c = record { call = read_device _ _ _ _ _ c.in-Ok.ensures.call _ _ c.in-Err.field-0 c.in-Err.ensures.call }
+returns-in-Err g c =
+    let size : length c.fill.new.to ≡ c.in-Ok.size = c.fill.auto.to ∙ c.as_mut_slice.ensures.len ∙ c.in-Ok-vec.ensures.len in
+    record { call = read_device _ _ _ _ _ c.in-Ok.ensures.call _ _ c.in-Err.field-0 c.if-size-limit.false size c.in-Err.ensures.call }
