@@ -6,9 +6,11 @@
 #![tactic(auto)]
 
 mod elements;
+mod laws;
 mod tags;
 mod tokens;
 
 pub use elements::{Attribute, Attributes, Child, Children, Element};
+pub use laws::one_piece;
 pub use tags::{QName, RawAttribute, Tag};
 pub use tokens::{Mode, Token};
