@@ -1,0 +1,6 @@
+pub mod Cutting
+pub mod Jpeg
+pub mod Kinds
+pub mod Markers
+pub mod Reads
+pub mod Wanted

@@ -1,0 +1,17 @@
+//! The one list of regions of a JPEG file: marker segments up to the first scan, and the tail.
+//!
+//! A file in memory and a file of a device are cut by one reader, which is told the bytes that
+//! it wants and wants no byte of a tail behind its marker. A list is the only one of its file,
+//! and a fault is the file's first. It stands on `xmp_base`.
+//! ISO 10918-1, annex B; Adobe XMP Specification Part 3, JPEG.
+#![tactic(auto)]
+
+mod cutting;
+mod kind;
+mod list;
+mod marker;
+mod reading;
+
+pub use cutting::JpegStop;
+pub use kind::RegionKind;
+pub use list::Regions;

@@ -1,0 +1,96 @@
+//! The list of regions, and what stops a cut.
+ghost use Rattle.std.specs.Prelude.{◌≡◌, ℕ, ◌≤◌, ◌<◌, ◌⊎◌, map, length, slice_get, Some, MatchResult};
+ghost use Rattle.std.specs.Option.{option_map};
+ghost use Rattle.jpeg_regions.specs.Jpeg.{mains};
+ghost use Rattle.jpeg_regions.specs.Reads.{region_of};
+
+use crate::kind::RegionKind;
+use crate::reading::Found;
+use std::marker::Model;
+use xmp_base::FileSpan;
+use xmp_values::Rule;
+
+/// The regions of a file, in their order. The last is the tail.
+#[derive(Drop)]
+pub struct Regions {
+    found: Vec<Found>,
+}
+
+impl Model for Regions {
+    ghost use Rattle.std.specs.Prelude.{List, map};
+    ghost use Rattle.jpeg_regions.specs.Jpeg.{Region};
+
+    ghost Value = { List Region };
+
+    ghost use Rattle.jpeg_regions.specs.Reads.{region_of};
+
+    ghost view = { λ r. map region_of r.found.items };
+}
+
+impl Regions {
+    /// The list of what was found; a second main region is the fault, with its place.
+    pub fn of(found: Vec<Found>) -> Result<Regions, (Rule, u64)>
+        ensures { MatchResult result
+            (λ regions. (regions ≡ map region_of found.items) × (length (mains regions) ≤ 1))
+            (λ e. (e.0 ≡ Rule.TwoPackets) × (option_map (λ r. r.range.start) (slice_get (mains (map region_of found.items)) 1) ≡ Some e.1)) }
+    {
+        match second_main(found.as_slice()) {
+            Some(start) => Err((Rule::TwoPackets, start)),
+            None => Ok(Regions { found }),
+        }
+    }
+
+    /// The number of regions.
+    pub fn len(&self) -> usize
+        ensures { result ≡ length self.now }
+    {
+        self.found.len()
+    }
+
+    pub fn kind(&self, i: usize) -> RegionKind
+        requires { i < length self.now }
+        ensures { option_map (λ r. r.kind) (slice_get self.now i) ≡ Some result }
+    {
+        self.found[i].kind
+    }
+
+    /// The whole region, from its first FF byte on.
+    pub fn range(&self, i: usize) -> FileSpan
+        requires { i < length self.now }
+        ensures { option_map (λ r. r.range) (slice_get self.now i) ≡ Some result }
+    {
+        let found = self.found[i];
+        FileSpan {
+            start: found.start,
+            end: found.end,
+        }
+    }
+
+    /// The bytes behind the length. Empty for a marker without length and for the tail.
+    pub fn payload(&self, i: usize) -> FileSpan
+        requires { i < length self.now }
+        ensures { option_map (λ r. r.payload) (slice_get self.now i) ≡ Some result }
+    {
+        let found = self.found[i];
+        FileSpan {
+            start: found.payload,
+            end: found.payload_end(),
+        }
+    }
+}
+
+/// The start of the second main region.
+fn second_main(found: &[Found]) -> Option<u64>
+    ensures { result ≡ option_map (λ r. r.range.start) (slice_get (mains (map region_of found.now)) 1) }
+{
+    let mut seen = false;
+    for region in found {
+        if let RegionKind::Main = region.kind {
+            if seen {
+                return Some(region.start);
+            }
+            seen = true;
+        }
+    }
+    None
+}
