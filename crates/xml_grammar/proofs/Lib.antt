@@ -4,3 +4,6 @@ pub mod ValueParts
 pub mod TagParts
 pub mod HeadParts
 pub mod OnePiece
+pub mod Readings
+pub mod TreeEvents
+pub mod OneMeaning

@@ -1,5 +1,5 @@
 -- At one place at most one piece stands.
-use Rattle.std.proofs.Common.{◌≡◌, ◌≢◌, ℕ, true, false, List, [], ◌∷◌, ◌++◌, refl, sym, ap, ◌∙◌, inl, inr, arith}
+use Rattle.std.proofs.Common.{◌≡◌, ◌≢◌, ℕ, true, false, List, [], ◌∷◌, ◌++◌, length, ◌<◌, refl, sym, ap, ◌∙◌, inl, inr, arith}
 use Rattle.std.specs.Prelude.{codes, ◌==◌, if◌then◌else◌, encode_utf8_all}
 use Rattle.std.proofs.lemmas.Bool.{eqb-true}
 use Rattle.std.proofs.lemmas.List.{append_cancel_left}
@@ -13,22 +13,22 @@ use Rattle.xml_grammar.proofs.ValueParts.{reference_row, reference_begins}
 use Rattle.xml_grammar.proofs.TagParts.{tag_row, end_row}
 use Rattle.xml_grammar.proofs.HeadParts.{head_row, instruction_row, no_head}
 
--- ---- which kind of piece a text begins with
+-- ---- which kind of piece a text begins with: 8 is none
 
-abbrev bang_kind : List ℕ → ℕ
-bang_kind [] = 4
-bang_kind (c ∷ cs) = if c == 0x2D then 1 else 2
+abbrev pub bang_kind : List ℕ → ℕ
+bang_kind [] = 8
+bang_kind (c ∷ cs) = if c == 0x2D then 1 else if c == 0x5B then 2 else 8
 
-abbrev mark_kind : List ℕ → ℕ
-mark_kind [] = 4
+abbrev pub mark_kind : List ℕ → ℕ
+mark_kind [] = 8
 mark_kind (c ∷ cs) = if c == 0x3F then 0 else if c == 0x2F then 3 else if c == 0x21 then bang_kind cs else 4
 
-abbrev kind_at : List ℕ → ℕ
+abbrev pub kind_at : List ℕ → ℕ
 kind_at [] = 8
 kind_at (c ∷ cs) = if c == 0x3C then mark_kind cs else if c == 0x26 then 5 else if c == 0xD then 6 else 7
 
 -- XML declarations and instructions begin alike
-abbrev kind : Piece → ℕ
+abbrev pub kind : Piece → ℕ
 kind (Declaration encoding) = 0
 kind Instruction = 0
 kind Comment = 1
@@ -53,14 +53,14 @@ tag_kind c cs h =
     let d : (c == 0x21) ≡ false = start_ne 0x21 refl c h in
     rw (a, b, d) refl
 
-plain_kind : (c : ℕ) (cs : List ℕ) → c ≢ 0x3C → c ≢ 0x26 → c ≢ 0xD → kind_at (c ∷ cs) ≡ 7
+pub plain_kind : (c : ℕ) (cs : List ℕ) → c ≢ 0x3C → c ≢ 0x26 → c ≢ 0xD → kind_at (c ∷ cs) ≡ 7
 plain_kind c cs less amp cr =
     let a : (c == 0x3C) ≡ false = ne_false c 0x3C less in
     let b : (c == 0x26) ≡ false = ne_false c 0x26 amp in
     let d : (c == 0xD) ≡ false = ne_false c 0xD cr in
     rw (a, b, d) refl
 
-kind_is : (p : Piece) (front back : List ℕ) → Spells p front → kind_at (front ++ back) ≡ kind p
+pub kind_is : (p : Piece) (front back : List ℕ) → Spells p front → kind_at (front ++ back) ≡ kind p
 kind_is (Declaration encoding) front back (version, named, alone, gap, hv, hn, ha, hg, at) = ap (λ (t : List ℕ). kind_at (t ++ back)) at
 kind_is Instruction front back (target, inside, ht, hi, at) = ap (λ (t : List ℕ). kind_at (t ++ back)) at
 kind_is Comment front back (inside, chars, lacks, at) = ap (λ (t : List ℕ). kind_at (t ++ back)) at
@@ -125,3 +125,19 @@ row_of mode p q a b c d k h j fh fj e = absurd (omega arith)
 pub one_piece : (mode : Mode) (p q : Piece) (a b c d : List ℕ) → Stands mode p a c → Stands mode q b d → a ++ c ≡ b ++ d → (p ≡ q) × (a ≡ b) × (c ≡ d)
 one_piece mode p q a b c d h j e =
     row_of mode p q a b c d (sym (kind_is p a c h.spelled) ∙ ap kind_at e ∙ kind_is q b d j.spelled) h.spelled j.spelled h.fits j.fits e
+
+-- a piece isn't spelled by nothing
+pub kind_some : (p : Piece) → kind p ≡ 8 → ⊥
+kind_some (Declaration encoding) e = omega arith
+kind_some Instruction e = omega arith
+kind_some Comment e = omega arith
+kind_some (Cdata text) e = omega arith
+kind_some (Start tag) e = omega arith
+kind_some (End name) e = omega arith
+kind_some (Reference c) e = omega arith
+kind_some LineEnd e = omega arith
+kind_some (Character c) e = omega arith
+
+pub stands_some : (mode : Mode) (p : Piece) (front back : List ℕ) → Stands mode p front back → 0 < length front
+stands_some mode p [] back h = absurd (kind_some p (sym (kind_is p [] [] h.spelled)))
+stands_some mode p (c ∷ cs) back h = omega arith

@@ -1,10 +1,24 @@
 //! Laws over the definitions: functions that do nothing, each with a law as its contract.
 ghost use Rattle.std.specs.Prelude.{◌≡◌, ◌++◌, List, ℕ};
+ghost use Rattle.xmp_values.specs.declared.hints.Hint.{Hint};
+ghost use Rattle.xmp_values.specs.declared.rules.Rule.{Rule};
+ghost use Rattle.xml_grammar.specs.declared.elements.Element.{Element};
 ghost use Rattle.xml_grammar.specs.declared.tokens.Mode.{Mode};
 ghost use Rattle.xml_grammar.specs.Pieces.{Piece, Stands};
+ghost use Rattle.xml_grammar.specs.Documents.{IsDocument, IsFault};
 
 /// At one place of a text at most one piece is spelled.
-#[tactic(auto, using(crate::proofs::OnePiece::one_piece))]
 pub fn one_piece()
     ensures { (mode : Mode) (p q : Piece) (a b c d : List ℕ) → Stands mode p a c → Stands mode q b d → a ++ c ≡ b ++ d → (p ≡ q) × (a ≡ b) × (c ≡ d) }
+{}
+
+/// A text has at most one document.
+pub fn one_document()
+    ensures { (text : List ℕ) (e f : Element) (g h : List Hint) → IsDocument text e g → IsDocument text f h → (e ≡ f) × (g ≡ h) }
+{}
+
+/// A text has at most one first fault, and one that has a document has none.
+pub fn one_fault()
+    ensures one { (text : List ℕ) (q r : Rule) (m n : ℕ) → IsFault text q m → IsFault text r n → (q ≡ r) × (m ≡ n) }
+    ensures none { (text : List ℕ) (e : Element) (h : List Hint) (r : Rule) (place : ℕ) → IsDocument text e h → IsFault text r place → ⊥ }
 {}
