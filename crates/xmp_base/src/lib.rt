@@ -11,6 +11,7 @@ mod file_desk;
 mod file_span;
 mod memory_desk;
 mod memory_sink;
+mod sparse_desk;
 mod std_sink;
 mod whole;
 
@@ -19,6 +20,7 @@ pub use file_desk::FileDesk;
 pub use file_span::FileSpan;
 pub use memory_desk::MemoryDesk;
 pub use memory_sink::MemorySink;
+pub use sparse_desk::SparseDesk;
 pub use std_sink::StdSink;
 pub use whole::{ReadStop, read_all};
 pub use xmp_values::{Bytes, Digits, Memory, Name, Sequence, Text, Words};
