@@ -1,4 +1,6 @@
-use xmp_values::{Name, Sequence, Text};
+ghost use Rattle.xmp_tree.specs.declared.nested.Member.{out-Member};
+
+use xmp_values::{Name, Named, Sequence, Text};
 
 pub type Members<'p> = Sequence<Member<'p>>;
 
@@ -32,4 +34,12 @@ pub struct Value<'p> {
 pub struct Member<'p> {
     pub name: Name<'p>,
     pub value: Value<'p>,
+}
+
+impl Named for Member<'_> {
+    ghost name = { λ m. (out-Member m).name };
+
+    fn name(&self) -> &Name<'_> {
+        &self.name
+    }
 }
