@@ -2,3 +2,4 @@ pub mod LineLaws
 pub mod PlainLaws
 pub mod BodyLaws
 pub mod NameLaws
+pub mod RootLaws

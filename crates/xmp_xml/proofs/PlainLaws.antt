@@ -5,11 +5,11 @@ use Rattle.std.specs.List.{concat, list_any}
 use Rattle.std.specs.Bool.{Decides}
 use Rattle.std.specs.Str.{bytes_eq}
 use Rattle.std.proofs.lemmas.Slice.Eq.{bytes_eq-Decides}
-use Rattle.std.proofs.lemmas.Bool.{cond-true, cond-false, cases_Bool, both_ways, not-true, not_from_false, and_parts, and_from, leb-true, le-leb, false_from_ne_true}
+use Rattle.std.proofs.lemmas.Bool.{cond-true, cond-false, cases_Bool, both_ways, not-true, not_from_false, and_parts, and_from, leb-true, le-leb, lt-leb, false_from_ne_true}
 use Rattle.std.proofs.lemmas.List.{append_assoc, length-append}
 use Rattle.std.proofs.lemmas.List.Elements.{All-nil, All-cons, All-head, All-tail}
 use Rattle.std.proofs.lemmas.List.Folds.{list_any_none, list_any_at}
-use Rattle.xmp_xml.specs.Plain.{Property, FirstLine, IsProperty, AreApart, ArePlain, IsPlain, line, opening, head, foot, text_limit, behind, first_line, properties, are_apart, properties_apart, plain_of}
+use Rattle.xmp_xml.specs.Plain.{Property, FirstLine, IsProperty, AreApart, ArePlain, IsPlain, line, opening, head, foot, text_limit, behind, first_line, properties, are_apart, properties_apart, plain_of, meta_tag, rdf_tag, description_tag}
 use Rattle.xmp_xml.proofs.LineLaws.{and_then-Some, map-Some, behind-some, behind-append, first_line-some, first_line-line}
 
 pub if_then-Some : {T : Type 0} (b : Bool) (o : Option T) (u : T) → cond b o None ≡ Some u → (b ≡ true) × (o ≡ Some u)
@@ -117,9 +117,9 @@ properties_apart-iff body ps =
     )
 
 -- `plain_of` finds the properties of a plain text, and those alone
-pub plain_of-iff : (text : List ℕ) (ps : List Property) → (plain_of text ≡ Some ps) ↔ IsPlain text ps
+pub plain_iff : (text : List ℕ) (ps : List Property) → (plain_of text ≡ Some ps) ↔ IsPlain text ps
 unfolding plain_of
-plain_of-iff text ps = (
+plain_iff text ps = (
   λ e.
       let a = if_then-Some (nat_le (length text) text_limit) (option_and_then properties_apart (behind head text)) ps e in
       let b = and_then-Some properties_apart (behind head text) ps a.1 in
@@ -139,4 +139,39 @@ plain_of-iff text ps = (
 
 -- and there is one list of them
 pub one_list : (text : List ℕ) (ps qs : List Property) → IsPlain text ps → IsPlain text qs → ps ≡ qs
-one_list text ps qs p q = let e = sym ((plain_of-iff text ps).1 p) ∙ (plain_of-iff text qs).1 q in cc
+one_list text ps qs p q = let e = sym ((plain_iff text ps).1 p) ∙ (plain_iff text qs).1 q in cc
+
+-- the answer of `plain_of` at each step of a reader
+pub plain_of-long : (text : List ℕ) → text_limit < length text → plain_of text ≡ None
+unfolding plain_of
+plain_of-long text long = cond-false _ _ _ (lt-leb (length text) text_limit long)
+
+pub plain_of-headless : (text : List ℕ) → behind head text ≡ None → plain_of text ≡ None
+unfolding plain_of
+plain_of-headless text none =
+    elim (cases_Bool (nat_le (length text) text_limit)) [
+      | inl t ↦ cond-true _ _ _ t ∙ ap (option_and_then properties_apart) none
+      | inr f ↦ cond-false _ _ _ f
+    ]
+
+pub plain_of-body : (text body : List ℕ) → length text ≤ text_limit → behind head text ≡ Some body → plain_of text ≡ properties_apart body
+unfolding plain_of
+plain_of-body text body short found =
+    cond-true _ _ _ (le-leb (length text) text_limit short) ∙ ap (option_and_then properties_apart) found
+
+abbrev only_apart : List Property → Option (List Property)
+only_apart ps = cond (are_apart ps) (Some ps) None
+
+pub properties_apart-none : (body : List ℕ) → properties (length body) body ≡ None → properties_apart body ≡ None
+properties_apart-none body none = ap (option_and_then only_apart) none
+
+pub properties_apart-apart : (body : List ℕ) (ps : List Property) → properties (length body) body ≡ Some ps → AreApart ps → properties_apart body ≡ Some ps
+properties_apart-apart body ps some apart = ap (option_and_then only_apart) some ∙ cond-true _ _ _ ((are_apart-Decides ps).1 apart)
+
+pub properties_apart-twice : (body : List ℕ) (ps : List Property) → properties (length body) body ≡ Some ps → (AreApart ps → ⊥) → properties_apart body ≡ None
+properties_apart-twice body ps some twice =
+    ap (option_and_then only_apart) some ∙ cond-false _ _ _ (false_from_ne_true (are_apart ps) (λ t. twice ((are_apart-Decides ps).0 t)))
+
+pub length-head : length head ≡ 178
+unfolding head meta_tag rdf_tag description_tag
+length-head = refl

@@ -1,2 +1,5 @@
 pub mod Plain
+pub mod PlainDocument
+pub mod Documents
+pub mod Read
 pub mod Lines

@@ -9,11 +9,17 @@ abbrev pub Property : Type 0
 Property = List ℕ × List ℕ
 
 -- the lines before the properties
+unfoldable pub meta_tag : List ℕ
+meta_tag = codes "<x:xmpmeta xmlns:x=\"adobe:ns:meta/\">\n"
+
+unfoldable pub rdf_tag : List ℕ
+rdf_tag = codes "<rdf:RDF xmlns:rdf=\"http://www.w3.org/1999/02/22-rdf-syntax-ns#\">\n"
+
+unfoldable pub description_tag : List ℕ
+description_tag = codes "<rdf:Description rdf:about=\"\" xmlns:dc=\"http://purl.org/dc/elements/1.1/\">\n"
+
 unfoldable pub head : List ℕ
-head =
-    codes "<x:xmpmeta xmlns:x=\"adobe:ns:meta/\">\n"
-    ++ codes "<rdf:RDF xmlns:rdf=\"http://www.w3.org/1999/02/22-rdf-syntax-ns#\">\n"
-    ++ codes "<rdf:Description rdf:about=\"\" xmlns:dc=\"http://purl.org/dc/elements/1.1/\">\n"
+head = meta_tag ++ (rdf_tag ++ description_tag)
 
 -- the lines behind them
 unfoldable pub foot : List ℕ

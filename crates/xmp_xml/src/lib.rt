@@ -6,6 +6,13 @@
 #![tactic(auto)]
 
 mod apart;
+mod documents;
+mod elements;
 mod lines;
+mod reading;
+mod stops;
 
+pub use documents::Doc;
+pub use reading::read;
+pub use stops::XmlStop;
 pub use xml_grammar::{Attribute, Attributes, Child, Children, Element};

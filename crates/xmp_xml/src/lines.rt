@@ -80,7 +80,7 @@ fn behind<'p>(text: &'p [u8], part: &[u8]) -> Option<&'p [u8]>
 }
 
 /// What stands behind the head.
-#[tactic(auto, unfolding(crate::specs::Plain::head))]
+#[tactic(auto, unfolding(crate::specs::Plain::head, crate::specs::Plain::meta_tag, crate::specs::Plain::rdf_tag, crate::specs::Plain::description_tag))]
 pub fn behind_head(text: &[u8]) -> Option<&[u8]>
     ensures { option_copied result ≡ behind head text.now }
 {
