@@ -8,10 +8,12 @@
 
 mod cutting;
 mod kind;
+mod laws;
 mod list;
 mod marker;
 mod reading;
 
 pub use cutting::JpegStop;
 pub use kind::RegionKind;
+pub use laws::one_answer;
 pub use list::Regions;
