@@ -1,0 +1,46 @@
+-- The names that RDF/XML gives a meaning.
+use Rattle.std.specs.Prelude.{ℕ, Bool, not, ◌&&◌, ◌||◌, List, [], codes}
+use Rattle.std.specs.Str.{bytes_eq}
+use Rattle.xmp_values.specs.declared.text.Name.{Name}
+use Rattle.xmp_tree.specs.Wf.{rdf_space, xml_space}
+
+-- the namespace of `x:xmpmeta` (ISO 16684-1, 7.3.3)
+unfoldable pub meta_space : List ℕ
+meta_space = codes "adobe:ns:meta/"
+
+-- the namespace and the local name of the note that names an extended text (Adobe XMP Part 3, 1.1.3.1)
+unfoldable pub note_name : Name
+note_name = record { space = codes "http://ns.adobe.com/xmp/note/"; local = codes "HasExtendedXMP" }
+
+abbrev pub same_name : Name → Name → Bool
+same_name m n = bytes_eq m.space n.space && bytes_eq m.local n.local
+
+-- the name of RDF's namespace with this local part
+abbrev pub rdf : List ℕ → Name
+rdf local = record { space = rdf_space; local = local }
+
+abbrev pub xml_lang : Name
+xml_lang = record { space = xml_space; local = codes "lang" }
+
+abbrev pub is_rdf : List ℕ → Name → Bool
+is_rdf local name = same_name name (rdf local)
+
+-- `x:xmpmeta`, or `x:xapmeta` of older files
+abbrev pub is_meta : Name → Bool
+is_meta name = bytes_eq name.space meta_space && (bytes_eq name.local (codes "xmpmeta") || bytes_eq name.local (codes "xapmeta"))
+
+abbrev pub is_container : Name → Bool
+is_container name = is_rdf (codes "Bag") name || is_rdf (codes "Seq") name || is_rdf (codes "Alt") name
+
+abbrev pub in_rdf : Name → Bool
+in_rdf name = bytes_eq name.space rdf_space
+
+abbrev pub in_xml : Name → Bool
+in_xml name = bytes_eq name.space xml_space
+
+abbrev pub in_none : Name → Bool
+in_none name = bytes_eq name.space []
+
+-- a name of a property attribute, which has a namespace other than RDF's and XML's
+abbrev pub is_own : Name → Bool
+is_own name = not (in_none name) && not (in_rdf name) && not (in_xml name)
