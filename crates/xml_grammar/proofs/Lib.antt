@@ -7,3 +7,7 @@ pub mod OnePiece
 pub mod Readings
 pub mod TreeEvents
 pub mod OneMeaning
+pub mod SoundTrees
+pub mod Unbroken
+pub mod SoundPieces
+pub mod SoundHints

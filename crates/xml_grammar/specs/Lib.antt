@@ -4,3 +4,4 @@ pub mod Scopes
 pub mod Nesting
 pub mod Trees
 pub mod Documents
+pub mod Sound

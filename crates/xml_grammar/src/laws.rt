@@ -1,11 +1,13 @@
 //! Laws over the definitions: functions that do nothing, each with a law as its contract.
 ghost use Rattle.std.specs.Prelude.{◌≡◌, ◌++◌, List, ℕ};
 ghost use Rattle.xmp_values.specs.declared.hints.Hint.{Hint};
+ghost use Rattle.xmp_values.specs.Hints.{AreValid};
 ghost use Rattle.xmp_values.specs.declared.rules.Rule.{Rule};
 ghost use Rattle.xml_grammar.specs.declared.elements.Element.{Element};
 ghost use Rattle.xml_grammar.specs.declared.tokens.Mode.{Mode};
 ghost use Rattle.xml_grammar.specs.Pieces.{Piece, Stands};
 ghost use Rattle.xml_grammar.specs.Documents.{IsDocument, IsFault};
+ghost use Rattle.xml_grammar.specs.Sound.{IsSound};
 
 /// At one place of a text at most one piece is spelled.
 pub fn one_piece()
@@ -21,4 +23,10 @@ pub fn one_document()
 pub fn one_fault()
     ensures one { (text : List ℕ) (q r : Rule) (m n : ℕ) → IsFault text q m → IsFault text r n → (q ≡ r) × (m ≡ n) }
     ensures none { (text : List ℕ) (e : Element) (h : List Hint) (r : Rule) (place : ℕ) → IsDocument text e h → IsFault text r place → ⊥ }
+{}
+
+/// In a document the attributes of one element differ in name, no name is in the namespace of
+/// `xmlns`, local parts are names without colon, and all text is made of Chars. Its hints are valid.
+pub fn sound_document()
+    ensures { (text : List ℕ) (root : Element) (hints : List Hint) → IsDocument text root hints → IsSound root × AreValid hints }
 {}
