@@ -1,0 +1,9 @@
+pub mod Seams
+pub mod Words
+pub mod Digits
+pub mod Sought
+pub mod Parts
+pub mod Attributes
+pub mod Tails
+pub mod Chars
+pub mod LineEnds

@@ -1,0 +1,66 @@
+-- Where a text is cut.
+use Rattle.std.proofs.Common.{◌≡◌, ℕ, ◌-◌, ◌+◌, ◌≤◌, Bool, true, false, cond, List, [], ◌∷◌, ◌++◌, length, take, refl, sym, ap, ◌∙◌, append_assoc, arith}
+use Rattle.std.specs.Prelude.{encode_utf8, encode_utf8_all}
+use Rattle.std.specs.Str.{chars, IsUtf8, IsCharBoundary}
+use Rattle.std.proofs.lemmas.List.{length-append, append-nil, take_at}
+use Rattle.std.proofs.lemmas.Str.{encodes-append, chars-nil, IsCharBoundary-at_seam}
+use Rattle.xml_tokenizer.specs.Runs.{taken, past}
+
+-- A run goes on: what was passed, and what is left.
+pub record Went (p : ℕ → Bool) (text rest : List ℕ) : Type 0 where
+  pub front : List ℕ
+  pub parts : text ≡ encode_utf8_all front ++ rest
+  pub run : taken p (chars text) ≡ front ++ taken p (chars rest)
+  pub same : past p (chars rest) ≡ past p (chars text)
+
+pub record IsRun (p : ℕ → Bool) (text rest : List ℕ) : Type 0 where
+  pub parts : text ≡ encode_utf8_all (taken p (chars text)) ++ rest
+  pub same : chars rest ≡ past p (chars text)
+
+pub went_none : (p : ℕ → Bool) (text : List ℕ) → Went p text text
+went_none p text = record { front = []; parts = refl; run = refl; same = refl }
+
+pub went_more : (p : ℕ → Bool) (text rest behind : List ℕ) (c : ℕ) → Went p text rest → rest ≡ encode_utf8 c ++ behind → chars rest ≡ c ∷ chars behind → p c ≡ true → Went p text behind
+went_more p text rest behind c w e h yes_ =
+    let one : encode_utf8_all (c ∷ []) ≡ encode_utf8 c = append-nil (encode_utf8 c) in
+    let t : taken p (chars rest) ≡ c ∷ taken p (chars behind) = rw (h, yes_) refl in
+    let s : past p (chars rest) ≡ past p (chars behind) = rw (h, yes_) refl in
+    let joined : encode_utf8_all w.front ++ (encode_utf8 c ++ behind) ≡ encode_utf8_all (w.front ++ c ∷ []) ++ behind = sym (ap (λ (x : List ℕ). x ++ behind) (encodes-append w.front (c ∷ []) ∙ ap (λ (x : List ℕ). encode_utf8_all w.front ++ x) one) ∙ append_assoc (encode_utf8_all w.front) (encode_utf8 c) behind) in
+    record {
+      front = w.front ++ c ∷ [];
+      parts = w.parts ∙ ap (λ (x : List ℕ). encode_utf8_all w.front ++ x) e ∙ joined;
+      run = w.run ∙ ap (λ (x : List ℕ). w.front ++ x) t ∙ sym (append_assoc w.front (c ∷ []) (taken p (chars behind)));
+      same = sym s ∙ w.same;
+    }
+
+pub went_stop : (p : ℕ → Bool) (text rest behind : List ℕ) (c : ℕ) → Went p text rest → chars rest ≡ c ∷ chars behind → p c ≡ false → IsRun p text rest
+went_stop p text rest behind c w h no_ =
+    let t : taken p (chars rest) ≡ [] = rw (h, no_) refl in
+    let s : past p (chars rest) ≡ chars rest = rw (h, no_) refl in
+    let all : taken p (chars text) ≡ w.front = w.run ∙ ap (λ (x : List ℕ). w.front ++ x) t ∙ append-nil w.front in
+    record {
+      parts = w.parts ∙ ap (λ (x : List ℕ). encode_utf8_all x ++ rest) (sym all);
+      same = sym s ∙ w.same;
+    }
+
+pub went_end : (p : ℕ → Bool) (text rest : List ℕ) → Went p text rest → rest ≡ [] → IsRun p text rest
+went_end p text rest w e =
+    let n : chars rest ≡ [] = ap chars e ∙ chars-nil in
+    let t : taken p (chars rest) ≡ [] = ap (taken p) n in
+    let s : past p (chars rest) ≡ chars rest = ap (past p) n ∙ sym n in
+    let all : taken p (chars text) ≡ w.front = w.run ∙ ap (λ (x : List ℕ). w.front ++ x) t ∙ append-nil w.front in
+    record {
+      parts = w.parts ∙ ap (λ (x : List ℕ). encode_utf8_all x ++ rest) (sym all);
+      same = sym s ∙ w.same;
+    }
+
+-- a text that is a front and a rest may be cut between them
+pub seam : (text front rest : List ℕ) → text ≡ front ++ rest → IsUtf8 rest → IsCharBoundary text (length text - length rest)
+seam text front rest e u =
+    let k : length text - length rest ≡ length front = omega (arith, ap length e, length-append front rest) in
+    rw k (IsCharBoundary-at_seam text front rest e u)
+
+pub before : (text front rest : List ℕ) → text ≡ front ++ rest → take (length text - length rest) text ≡ front
+before text front rest e =
+    let k : length text - length rest ≡ length front = omega (arith, ap length e, length-append front rest) in
+    rw (k, e) (take_at front rest (length front) refl)

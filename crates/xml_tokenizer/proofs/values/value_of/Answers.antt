@@ -1,0 +1,13 @@
+use Rattle.std.proofs.Common.{◌≡◌, [], ◌∷◌, Some, ◌∙◌, sym, ap, subst, List, ℕ}
+use Rattle.std.specs.Str.{chars}
+use Rattle.xml_tokenizer.specs.Runs.{after}
+use Rattle.xml_tokenizer.specs.Values.{value_at}
+use Rattle.xml_tokenizer.proofs.Tails.{value_plain}
+use Rattle.xml_tokenizer.proofs.values.value_of.Goals as goal
+
+pub returns-in-Some : goal.returns-in-Some
+returns-in-Some c =
+    let e = c.raw.ensures ∙ c.as_bytes.ensures.value ∙ c.run.ensures.front in
+    let h : chars c.run.result.1.now ≡ _ = c.run.ensures.rest in
+    let k = value_plain c.args.quote (chars c.args.text.now) (chars c.in-Some.behind.now) (subst (λ (x : List ℕ). after (c.args.quote ∷ []) x ≡ Some (chars c.in-Some.behind.now)) h c.in-Some.ensures) in
+    k ∙ ap (λ (x : List ℕ). Some (x, chars c.in-Some.behind.now)) (sym e)

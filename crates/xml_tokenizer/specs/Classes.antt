@@ -1,0 +1,26 @@
+-- Classes of characters, of which runs are made.
+use Rattle.std.specs.Prelude.{ℕ, Bool, not, ◌||◌, ◌&&◌, ◌==◌}
+use Rattle.xmp_values.specs.Characters.{is_blank, is_char, is_name_char}
+use Rattle.xml_grammar.specs.Spelling.{is_digit}
+use Rattle.xml_tokenizer.specs.declared.classes.Class.{Class}
+use Rattle.xml_tokenizer.specs.declared.classes.Class.TheVariants.{NameChar, Blank, Decimal, Plain, Value, Other}
+
+-- a Char that stands for itself wherever it stands
+unfoldable pub is_plain : ℕ → Bool
+is_plain c = is_char c && not (c == 60 || c == 38 || c == 13 || c == 93)
+
+-- a Char that stands for itself in a value between these quotes
+unfoldable pub is_value : ℕ → ℕ → Bool
+is_value quote c = is_char c && not (c == 60 || c == 38 || c == quote || c == 9 || c == 10 || c == 13)
+
+-- a Char other than this one
+unfoldable pub is_other : ℕ → ℕ → Bool
+is_other stop c = is_char c && not (c == stop)
+
+abbrev pub has : Class → ℕ → Bool
+has NameChar = is_name_char
+has Blank = is_blank
+has Decimal = is_digit 10
+has Plain = is_plain
+has (Value quote) = is_value quote
+has (Other stop) = is_other stop

@@ -1,0 +1,11 @@
+pub mod Classes
+pub mod Declarations
+pub mod Lines
+pub mod Names
+pub mod References
+pub mod Runs
+pub mod Sections
+pub mod Steps
+pub mod Tags
+pub mod Tokens
+pub mod Values

@@ -1,0 +1,23 @@
+-- Reading from left to right: a step gives what it read and the characters that are left, or nothing.
+use Rattle.std.specs.Prelude.{◌≡◌, ℕ, List, Option, None, Some, Result, Ok, Err}
+use Rattle.xml_tokenizer.specs.declared.stops.Miss.{Miss}
+use Rattle.xml_tokenizer.specs.declared.stops.Miss.TheVariants as misses
+
+infixl 10 ◌>>=◌
+abbrev pub ◌>>=◌ : {A B : Type 0} → Option A → (A → Option B) → Option B
+(Some x) >>= f = f x
+None >>= f = None
+
+-- the first of two that gives something
+abbrev pub or_else : {A : Type 0} → Option A → Option A → Option A
+or_else (Some x) other = Some x
+or_else None other = other
+
+-- What a function returned, seen by view, is what reading gives, unless memory ran out.
+abbrev pub Misses : {Y : Type 0} → Miss → Option Y → Type 0
+Misses misses.Memory read = Unit {0}
+Misses misses.Nothing read = read ≡ None
+
+abbrev pub Gives : {X Y : Type 0} → (X → Y) → Result X Miss → Option Y → Type 0
+Gives view (Ok x) read = read ≡ Some (view x)
+Gives view (Err miss) read = Misses miss read

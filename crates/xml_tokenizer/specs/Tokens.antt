@@ -1,0 +1,67 @@
+-- Reading the token at the front of a text.
+use Rattle.std.specs.Prelude.{ℕ, Bool, true, false, ◌&&◌, ◌==◌, List, [], ◌∷◌, Option, None, Some, codes, if◌then◌else◌, encode_utf8_all}
+use Rattle.xml_grammar.specs.declared.tokens.Mode.{Mode}
+use Rattle.xml_grammar.specs.declared.tokens.Mode.TheVariants as modes
+use Rattle.xml_grammar.specs.declared.tokens.Token.{Token}
+use Rattle.xml_grammar.specs.declared.tokens.Token.TheVariants as tokens
+use Rattle.xml_tokenizer.specs.Classes.{is_plain}
+use Rattle.xml_tokenizer.specs.Declarations.{declaration_at}
+use Rattle.xml_tokenizer.specs.References.{reference_at}
+use Rattle.xml_tokenizer.specs.Runs.{taken, past, after, begins, starts_with}
+use Rattle.xml_tokenizer.specs.Sections.{comment_at, cdata_at, instruction_at}
+use Rattle.xml_tokenizer.specs.Steps.{◌>>=◌, or_else}
+use Rattle.xml_tokenizer.specs.Tags.{start_at, end_at}
+use Rattle.xml_tokenizer.specs.Values.{past_feed}
+
+abbrev pub is_start : Mode → Bool
+is_start modes.Start = true
+is_start modes.Outside = false
+is_start modes.Inside = false
+
+abbrev pub is_inside : Mode → Bool
+is_inside modes.Start = false
+is_inside modes.Outside = false
+is_inside modes.Inside = true
+
+-- behind `<?xml`, at the text's start
+abbrev pub declared_at : Bool → Option (List ℕ) → Option (Token × List ℕ)
+declared_at true (Some rest) = declaration_at rest >>= λ x. Some (tokens.Declaration x.0, x.1)
+declared_at true None = None
+declared_at false found = None
+
+-- behind `<?`
+unfoldable pub question_at : Bool → List ℕ → Option (Token × List ℕ)
+question_at start cs = or_else (declared_at start (after (codes "xml") cs)) (instruction_at cs >>= λ rest. Some (tokens.Instruction, rest))
+
+abbrev pub comment_or : List ℕ → Option (List ℕ) → Option (Token × List ℕ)
+comment_or cs (Some rest) = comment_at rest >>= λ x. Some (tokens.Comment, x)
+comment_or cs None = after (codes "[CDATA[") cs >>= λ rest. cdata_at rest >>= λ x. Some (tokens.Cdata x.0, x.1)
+
+-- behind `<!`
+abbrev pub section_at : List ℕ → Option (Token × List ℕ)
+section_at cs = comment_or cs (after (codes "--") cs)
+
+-- behind `<`
+unfoldable pub markup_at : Bool → List ℕ → Option (Token × List ℕ)
+markup_at start [] = None
+markup_at start (c ∷ cs) =
+    if c == 47 then (end_at cs >>= λ x. Some (tokens.End x.0, x.1))
+    else if c == 63 then question_at start cs
+    else if c == 33 then section_at cs
+    else (start_at (c ∷ cs) >>= λ x. Some (tokens.Start x.0, x.1))
+
+-- a `]` that stands for itself
+unfoldable pub bracket_at : Bool → List ℕ → Option (Token × List ℕ)
+bracket_at inside cs = after (codes "]") cs >>= λ rest. if inside && begins (codes "]>") rest then None else Some (tokens.Run (codes "]"), rest)
+
+-- characters that stand for themselves
+unfoldable pub run_at : Bool → List ℕ → Option (Token × List ℕ)
+run_at inside cs = if starts_with is_plain cs then Some (tokens.Run (encode_utf8_all (taken is_plain cs)), past is_plain cs) else bracket_at inside cs
+
+unfoldable pub token_at : Mode → List ℕ → Option (Token × List ℕ)
+token_at mode [] = None
+token_at mode (c ∷ cs) =
+    if c == 60 then markup_at (is_start mode) cs
+    else if c == 38 then (reference_at cs >>= λ x. Some (tokens.Reference x.0, x.1))
+    else if c == 13 then Some (tokens.LineEnd, past_feed cs)
+    else run_at (is_inside mode) (c ∷ cs)

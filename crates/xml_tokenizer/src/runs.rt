@@ -1,0 +1,139 @@
+//! Runs of characters, and given words.
+
+ghost use Rattle.std.specs.Prelude.{◌≡◌, ◌<◌, ◌≤◌, [], ◌∷◌, ◌++◌, true, length, drop, Some, None, MatchOption, IfNone, IfSome, encode_utf8, encode_utf8_all};
+ghost use Rattle.std.specs.Str.{chars};
+ghost use Rattle.xmp_values.specs.Characters.{is_char};
+ghost use Rattle.xml_tokenizer.specs.Classes as classes;
+ghost use Rattle.xml_tokenizer.specs.Runs.{taken, past, after, begins, starts_with, is_ascii, width, up_to};
+ghost use Rattle.xml_tokenizer.specs.Steps.{Gives};
+
+use crate::classes::{Class, has};
+use crate::stops::Miss;
+
+/// The first character, and the text after it.
+pub fn next_char(text: &str) -> Option<(char, &str)>
+    ensures empty { IfNone result (text.now ≡ []) }
+    ensures none { IfNone result (chars text.now ≡ []) }
+    ensures some { IfSome result (λ x. (text.now ≡ encode_utf8 x.0 ++ x.1.now) × (chars text.now ≡ x.0 ∷ chars x.1.now) × (length x.1.now < length text.now)) }
+{
+    let mut it = text.chars();
+    match it.next() {
+        Some(c) => Some((c, it.as_str())),
+        None => None,
+    }
+}
+
+/// How many bytes the text is.
+pub fn width_of(text: &str) -> usize
+    ensures { result ≡ width (chars text.now) }
+{
+    text.len()
+}
+
+/// The text after the longest run.
+pub fn past_run(class: Class, text: &str) -> &str
+    ensures parts { text.now ≡ encode_utf8_all (taken (classes.has class) (chars text.now)) ++ result.now }
+    ensures rest { chars result.now ≡ past (classes.has class) (chars text.now) }
+{
+    let mut rest = text;
+    for _ in 0..text.len() {
+        match next_char(rest) {
+            Some((c, behind)) => {
+                if !has(class, c) {
+                    return rest;
+                }
+                rest = behind;
+            }
+            None => return rest,
+        }
+    }
+    rest
+}
+
+/// The longest run, and the text after it.
+pub fn run(class: Class, text: &str) -> (&str, &str)
+    ensures front { result.0.now ≡ encode_utf8_all (taken (classes.has class) (chars text.now)) }
+    ensures rest { chars result.1.now ≡ past (classes.has class) (chars text.now) }
+{
+    let rest = past_run(class, text);
+    text.split_at(text.len() - rest.len())
+}
+
+/// Whether the text begins with a character of the class.
+pub fn starts_with(class: Class, text: &str) -> bool
+    ensures { result ≡ starts_with (classes.has class) (chars text.now) }
+{
+    match next_char(text) {
+        Some((c, _)) => has(class, c),
+        None => false,
+    }
+}
+
+/// The text after an ASCII word, where it begins so.
+pub fn behind<'p>(word: &str, text: &'p str) -> Option<&'p str>
+    requires { is_ascii word.now ≡ true }
+    ensures { MatchOption result (after word.now (chars text.now) ≡ None) (λ x. after word.now (chars text.now) ≡ Some (chars x.now)) }
+{
+    text.strip_prefix(word)
+}
+
+pub fn begins(word: &str, text: &str) -> bool
+    requires { is_ascii word.now ≡ true }
+    ensures { result ≡ begins word.now (chars text.now) }
+{
+    behind(word, text).is_some()
+}
+
+pub fn after<'p>(word: &str, text: &'p str) -> Result<&'p str, Miss>
+    requires { is_ascii word.now ≡ true }
+    ensures { Gives (λ x. chars x.now) result (after word.now (chars text.now)) }
+{
+    match behind(word, text) {
+        Some(rest) => Ok(rest),
+        None => Err(Miss::Nothing),
+    }
+}
+
+/// The text after a character.
+pub fn behind_char(c: char, text: &str) -> Option<&str>
+    ensures { MatchOption result (after (c ∷ []) (chars text.now) ≡ None) (λ x. after (c ∷ []) (chars text.now) ≡ Some (chars x.now)) }
+{
+    match next_char(text) {
+        Some((first, rest)) if first == c => Some(rest),
+        _ => None,
+    }
+}
+
+pub fn after_char(c: char, text: &str) -> Result<&str, Miss>
+    ensures { Gives (λ x. chars x.now) result (after (c ∷ []) (chars text.now)) }
+{
+    match behind_char(c, text) {
+        Some(rest) => Ok(rest),
+        None => Err(Miss::Nothing),
+    }
+}
+
+/// The Chars up to a word, which begins with `first`, and the text after the word.
+pub fn up_to<'p>(first: char, word: &str, text: &'p str) -> Result<(&'p str, &'p str), Miss>
+    requires ascii { is_ascii word.now ≡ true }
+    requires first { first ∷ drop 1 word.now ≡ word.now }
+    requires char { is_char first ≡ true }
+    ensures { Gives (λ x. (chars x.0.now, chars x.1.now)) result (up_to word.now (chars text.now)) }
+{
+    let mut rest = text;
+    for _ in 0..text.len() {
+        let stop = past_run(Class::Other(first), rest);
+        if let Some(behind) = behind(word, stop) {
+            let (inside, _) = text.split_at(text.len() - stop.len());
+            return Ok((inside, behind));
+        }
+        let Some((c, next)) = next_char(stop) else {
+            return Err(Miss::Nothing);
+        };
+        if c != first {
+            return Err(Miss::Nothing);
+        }
+        rest = next;
+    }
+    Err(Miss::Nothing)
+}

@@ -1,0 +1,124 @@
+//! The token at the front of a text.
+
+ghost use Rattle.std.specs.Prelude.{◌≡◌};
+ghost use Rattle.std.specs.Str.{chars};
+ghost use Rattle.xml_tokenizer.specs.Tokens.{is_start, is_inside, question_at, section_at, markup_at, bracket_at, run_at, token_at};
+ghost use Rattle.xml_tokenizer.specs.Steps.{Gives};
+
+use crate::classes::Class;
+use crate::declarations::declaration_of;
+use crate::references::reference_of;
+use crate::runs::{after, begins, behind, behind_char, next_char, run, starts_with};
+use crate::sections::{cdata_of, past_comment, past_instruction};
+use crate::stops::Miss;
+use crate::tags::{end_of, start_of};
+use crate::values::after_feed;
+use std::alloc::Global;
+use xml_grammar::{Mode, Token};
+use xmp_values::Text;
+
+fn is_start(mode: Mode) -> bool
+    ensures { result ≡ is_start mode }
+{
+    matches!(mode, Mode::Start)
+}
+
+fn is_inside(mode: Mode) -> bool
+    ensures { result ≡ is_inside mode }
+{
+    matches!(mode, Mode::Inside)
+}
+
+/// Behind `<?`.
+#[tactic(auto, unfolding(crate::specs::Tokens::question_at))]
+fn question_of(start: bool, text: &str) -> Result<(Token<'_>, &str), Miss>
+    ensures { Gives (λ x. (x.0, chars x.1.now)) result (question_at start (chars text.now)) }
+{
+    if start {
+        if let Some(rest) = behind("xml", text) {
+            match declaration_of(rest) {
+                Ok((encoding, rest)) => return Ok((Token::Declaration(encoding), rest)),
+                Err(Miss::Nothing) => {}
+                Err(Miss::Memory) => return Err(Miss::Memory),
+            }
+        }
+    }
+    let rest = past_instruction(text)?;
+    Ok((Token::Instruction, rest))
+}
+
+/// Behind `<!`.
+fn section_of(alloc: Global, text: &str) -> Result<(Token<'_>, &str), Miss>
+    ensures { Gives (λ x. (x.0, chars x.1.now)) result (section_at (chars text.now)) }
+{
+    if let Some(rest) = behind("--", text) {
+        let rest = past_comment(rest)?;
+        return Ok((Token::Comment, rest));
+    }
+    let rest = after("[CDATA[", text)?;
+    let (data, rest) = cdata_of(alloc, rest)?;
+    Ok((Token::Cdata(data), rest))
+}
+
+/// Behind `<`.
+#[tactic(auto, unfolding(crate::specs::Tokens::markup_at))]
+fn markup_of(alloc: Global, start: bool, text: &str) -> Result<(Token<'_>, &str), Miss>
+    ensures { Gives (λ x. (x.0, chars x.1.now)) result (markup_at start (chars text.now)) }
+{
+    match next_char(text) {
+        Some(('/', rest)) => {
+            let (name, rest) = end_of(rest)?;
+            Ok((Token::End(name), rest))
+        }
+        Some(('?', rest)) => question_of(start, rest),
+        Some(('!', rest)) => section_of(alloc, rest),
+        Some(_) => {
+            let (tag, rest) = start_of(alloc, text)?;
+            Ok((Token::Start(tag), rest))
+        }
+        None => Err(Miss::Nothing),
+    }
+}
+
+/// A `]` that stands for itself.
+#[tactic(auto, unfolding(crate::specs::Tokens::bracket_at))]
+fn bracket_of(inside: bool, text: &str) -> Result<(Token<'_>, &str), Miss>
+    ensures { Gives (λ x. (x.0, chars x.1.now)) result (bracket_at inside (chars text.now)) }
+{
+    let Some(rest) = behind_char(']', text) else {
+        return Err(Miss::Nothing);
+    };
+    if inside && begins("]>", rest) {
+        return Err(Miss::Nothing);
+    }
+    Ok((Token::Run(Text::raw(b"]")), rest))
+}
+
+/// Characters that stand for themselves.
+#[tactic(auto, unfolding(crate::specs::Tokens::run_at))]
+fn run_of(inside: bool, text: &str) -> Result<(Token<'_>, &str), Miss>
+    ensures { Gives (λ x. (x.0, chars x.1.now)) result (run_at inside (chars text.now)) }
+{
+    if !starts_with(Class::Plain, text) {
+        return bracket_of(inside, text);
+    }
+    let (plain, rest) = run(Class::Plain, text);
+    Ok((Token::Run(Text::raw(plain.as_bytes())), rest))
+}
+
+/// The token at the front of a text, and the text after it.
+#[tactic(auto, unfolding(crate::specs::Tokens::token_at))]
+pub fn token_of(alloc: Global, mode: Mode, text: &str) -> Result<(Token<'_>, &str), Miss>
+    ensures { Gives (λ x. (x.0, chars x.1.now)) result (token_at mode (chars text.now)) }
+{
+    match next_char(text) {
+        Some(('<', rest)) => markup_of(alloc, is_start(mode), rest),
+        Some(('&', rest)) => {
+            let (c, rest) = reference_of(rest)?;
+            Ok((Token::Reference(c), rest))
+        }
+        Some(('\r', rest)) => Ok((Token::LineEnd, after_feed(rest))),
+        Some(_) => run_of(is_inside(mode), text),
+        None => Err(Miss::Nothing),
+    }
+}
