@@ -11,3 +11,5 @@ pub mod SoundTrees
 pub mod Unbroken
 pub mod SoundPieces
 pub mod SoundHints
+pub mod Stopping
+pub mod Rows

@@ -26,7 +26,7 @@ use Rattle.xml_grammar.proofs.TreeEvents.{same_element}
 
 -- ---- what a text begins with, as a test
 
-abbrev begins : List ℕ → List ℕ → Bool
+abbrev pub begins : List ℕ → List ℕ → Bool
 begins [] text = true
 begins (n ∷ ns) [] = false
 begins (n ∷ ns) (c ∷ cs) = n == c && begins ns cs
@@ -42,12 +42,12 @@ begins_with (n ∷ ns) (c ∷ cs) e =
 begins_not : (needle text : List ℕ) → (BeginsWith needle text → ⊥) → begins needle text ≡ false
 begins_not needle text h = apart (begins needle text) (λ e. h (begins_with needle text e))
 
-abbrev is_empty : List ℕ → Bool
+abbrev pub is_empty : List ℕ → Bool
 is_empty [] = true
 is_empty (c ∷ cs) = false
 
 -- the rule where no piece stands
-abbrev rule_at : List ℕ → Rule
+abbrev pub rule_at : List ℕ → Rule
 rule_at left =
     if begins (codes "<!DOCTYPE") left then Doctype
     else if begins (codes "<!--") left then BadComment
@@ -61,19 +61,19 @@ rule_at left =
 -- ---- the rule for what is left
 
 -- no piece stands there
-abbrev NoneStands : Nest → List ℕ → Type 0
+abbrev pub NoneStands : Nest → List ℕ → Type 0
 NoneStands s left = HasPiece (mode_of s) left → ⊥
 
-abbrev IsOpen : Nest → Type 0
+abbrev pub IsOpen : Nest → Type 0
 IsOpen s = (s.levels ≢ []) ⊎ (s.rooted ≡ false)
 
 -- a rule that holds is the one that a piece breaks, or the text tells it
-record Tells (s : Nest) (left : List ℕ) (r : Rule) : Type 0 where
-  none : NoneStands s left
-  rule : r ≡ rule_at left
-  ends : left ≡ [] → IsOpen s
+pub record Tells (s : Nest) (left : List ℕ) (r : Rule) : Type 0 where
+  pub none : NoneStands s left
+  pub rule : r ≡ rule_at left
+  pub ends : left ≡ [] → IsOpen s
 
-abbrev Says : Nest → List ℕ → Rule → Type 0
+abbrev pub Says : Nest → List ℕ → Rule → Type 0
 Says s left r = Breaks s left r ⊎ Tells s left r
 
 not_empty : (s : Nest) (c : ℕ) (rest left : List ℕ) → left ≡ c ∷ rest → left ≡ [] → IsOpen s
@@ -139,7 +139,7 @@ bracket_none s left inside (rest, at) (p, front, back, stands, is) =
     let h = plain_piece (mode_of s) p front back 0x5D (codes "]>" ++ rest) stands (sym is ∙ at) k in
     h.1 inside refl (rest, refl)
 
-says : (s : Nest) (left : List ℕ) (r : Rule) → IsRule s left r → Says s left r
+pub says : (s : Nest) (left : List ℕ) (r : Rule) → IsRule s left r → Says s left r
 says s left BadChar (inl (c, rest, f, at)) = inr (record { none = bad_none s c rest left f at; rule = sym (ap rule_at at ∙ bad_rule c rest f); ends = not_empty s c rest left at })
 says s left BadChar (inr (inside, begins)) = inr (record { none = bracket_none s left inside begins; rule = sym (ap rule_at begins.1); ends = not_empty s 0x5D (codes "]>" ++ begins.0) left begins.1 })
 says s left Doctype (rest, at) = inr (record { none = kind_none s left (ap kind_at at); rule = sym (ap rule_at at); ends = not_empty s 0x3C (codes "!DOCTYPE" ++ rest) left at })
