@@ -14,6 +14,7 @@ mod memory_sink;
 mod sparse_desk;
 mod std_sink;
 mod whole;
+mod windows;
 
 pub use device::{Desk, Failed, Sink, SizeStop};
 pub use file_desk::FileDesk;
@@ -23,4 +24,5 @@ pub use memory_sink::MemorySink;
 pub use sparse_desk::SparseDesk;
 pub use std_sink::StdSink;
 pub use whole::{ReadStop, read_all};
+pub use windows::{WindowStop, append, copy_range, window};
 pub use xmp_values::{Bytes, Digits, Memory, Name, Sequence, Text, Words};

@@ -1,0 +1,14 @@
+use Rattle.std.proofs.Common.{refl, ap, sym, ◌+◌, ℕ}
+use Rattle.xmp_base.proofs.Calls.{part_size, put_size}
+use Rattle.xmp_base.proofs.Inside.{filled_more}
+use Rattle.xmp_base.proofs.windows.fill_from.Goals as goal
+
+pub loop-done-preserved : goal.loop-done-preserved
+loop-done-preserved g c =
+    let inv = c.loop-done.invariant in
+    let size = part_size _ _ _ inv.within c.read_at.auto.to in
+    let call = c.in_ok-done.ensures.call in
+    record {
+      within = put_size _ _ _ _ inv.within size call.most.0;
+      filled = filled_more _ _ _ _ _ _ _ _ _ _ _ inv.filled call inv.within size refl (ap (λ (n : ℕ). c.args.at + n) (sym c.loop-done.auto.to));
+    }

@@ -1,0 +1,95 @@
+// Parts of a file.
+ghost use Rattle.std.specs.Prelude.{◌≡◌, ◌≢◌, ◌+◌, ◌<◌, ◌≤◌, ◌^◌, length, IsTrue};
+ghost use Rattle.xmp_base.specs.Device.{is_known, len_of};
+ghost use Rattle.xmp_base.specs.Windows.{FillFrom, WindowCall, AppendCall, CopyCall};
+
+use crate::{Desk, Failed};
+use std::alloc::Global;
+use xmp_values::Bytes;
+
+#[derive(Clone, Copy, Debug, PartialEq, Eq)]
+pub enum WindowStop {
+    Device,
+    Memory,
+}
+
+/// The `len` bytes of a file from `at` on.
+pub fn window<D: Desk>(
+    alloc: Global,
+    desk: &mut D,
+    name: &str,
+    at: u64,
+    len: usize,
+) -> Result<Bytes, WindowStop>
+    requires known { IsTrue (is_known (D.state desk.old) name.now) }
+    requires within { at + len ≤ len_of (D.state desk.old) name.now }
+    requires fits { at + len < 2 ^ 64 }
+    ensures call { WindowCall (D.state desk.old) (D.state desk.new) name.now at len result }
+{
+    let Ok(mut items) = vec![in alloc; 0u8; len] else {
+        return Err(WindowStop::Memory);
+    };
+    match fill_from(desk, name, at, items.as_mut_slice()) {
+        Ok(()) => Ok(Bytes::from_vec(items)),
+        Err(Failed) => Err(WindowStop::Device),
+    }
+}
+
+/// Fills a slice with the bytes of a file from `at` on.
+fn fill_from<D: Desk>(desk: &mut D, name: &str, at: u64, to: &mut [u8]) -> Result<(), Failed>
+    requires known { IsTrue (is_known (D.state desk.old) name.now) }
+    requires within { at + length to.old ≤ len_of (D.state desk.old) name.now }
+    requires fits { at + length to.old < 2 ^ 64 }
+    ensures call { FillFrom (D.state desk.old) (D.state desk.new) name.now at to.new result }
+{
+    let mut done = 0;
+    while done < to.len() {
+        done += desk.read_at(name, at + done as u64, &mut to[done..])?;
+    }
+    Ok(())
+}
+
+/// Puts `len` bytes of the file `from`, from `at` on, at the end of the file `to`, in pieces of at
+/// most the buffer's length. `end` is the length of `to`.
+pub fn copy_range<D: Desk>(
+    desk: &mut D,
+    from: &str,
+    at: u64,
+    len: u64,
+    to: &str,
+    end: u64,
+    buffer: &mut [u8],
+) -> Result<(), Failed>
+    requires apart { from.now ≢ to.now }
+    requires source { IsTrue (is_known (D.state desk.old) from.now) }
+    requires target { IsTrue (is_known (D.state desk.old) to.now) }
+    requires within { at + len ≤ len_of (D.state desk.old) from.now }
+    requires fits { at + len < 2 ^ 64 }
+    requires at_end { end ≡ len_of (D.state desk.old) to.now }
+    requires room { end + len < 2 ^ 64 }
+    requires some { 0 < length buffer.old }
+    ensures call { CopyCall (D.state desk.old) (D.state desk.new) from.now at len to.now (length buffer.old) result }
+{
+    let mut done = 0;
+    while done < len {
+        let most = (len - done).min(buffer.len() as u64) as usize;
+        let count = desk.read_at(from, at + done, &mut buffer[..most])?;
+        append(desk, to, end + done, &buffer[..count])?;
+        done += count as u64;
+    }
+    Ok(())
+}
+
+/// Puts a piece at the end of a file.
+pub fn append<D: Desk>(desk: &mut D, to: &str, end: u64, piece: &[u8]) -> Result<(), Failed>
+    requires target { IsTrue (is_known (D.state desk.old) to.now) }
+    requires at_end { end ≡ len_of (D.state desk.old) to.now }
+    requires room { end + length piece.now < 2 ^ 64 }
+    ensures call { AppendCall (D.state desk.old) (D.state desk.new) to.now piece.now result }
+{
+    let mut done = 0;
+    while done < piece.len() {
+        done += desk.write_at(to, end + done as u64, &piece[done..])?;
+    }
+    Ok(())
+}
