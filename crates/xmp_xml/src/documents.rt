@@ -24,9 +24,12 @@ impl<'p> Model for Doc<'p> {
 }
 
 impl<'p> Doc<'p> {
+    ghost use Rattle.xmp_xml.specs.PlainDocument.{IsPlainRoot};
+
     /// The root, and in it all elements.
     pub fn root(&self) -> &Element<'p>
-        ensures { result.now ≡ self.now.root }
+        ensures root { result.now ≡ self.now.root }
+        ensures plain { IsPlainRoot self.now.root }
     {
         &self.root
     }

@@ -1,0 +1,2 @@
+pub mod RootShape
+pub mod FormedLaws
