@@ -13,3 +13,5 @@ pub mod SoundPieces
 pub mod SoundHints
 pub mod Stopping
 pub mod Rows
+pub mod KindsByText
+pub mod Gate

@@ -1,17 +1,31 @@
 //! Laws over the definitions: functions that do nothing, each with a law as its contract.
-ghost use Rattle.std.specs.Prelude.{◌≡◌, ◌++◌, List, ℕ};
+ghost use Rattle.std.specs.Prelude.{◌≡◌, ◌⊎◌, ◌++◌, ◌∷◌, List, Option, ℕ, codes};
 ghost use Rattle.xmp_values.specs.declared.hints.Hint.{Hint};
 ghost use Rattle.xmp_values.specs.Hints.{AreValid};
 ghost use Rattle.xmp_values.specs.declared.rules.Rule.{Rule};
 ghost use Rattle.xml_grammar.specs.declared.elements.Element.{Element};
+ghost use Rattle.xml_grammar.specs.declared.tags.QName.{QName};
+ghost use Rattle.xml_grammar.specs.declared.tags.Tag.{Tag};
 ghost use Rattle.xml_grammar.specs.declared.tokens.Mode.{Mode};
-ghost use Rattle.xml_grammar.specs.Pieces.{Piece, Stands};
+ghost use Rattle.xml_grammar.specs.Spelling.{BeginsWith};
+ghost use Rattle.xml_grammar.specs.Pieces.{Piece, Declaration, Instruction, Comment, Cdata, Start, End, Reference, Stands};
 ghost use Rattle.xml_grammar.specs.Documents.{IsDocument, IsFault};
 ghost use Rattle.xml_grammar.specs.Sound.{IsSound};
 
 /// At one place of a text at most one piece is spelled.
 pub fn one_piece()
     ensures { (mode : Mode) (p q : Piece) (a b c d : List ℕ) → Stands mode p a c → Stands mode q b d → a ++ c ≡ b ++ d → (p ≡ q) × (a ≡ b) × (c ≡ d) }
+{}
+
+/// How a text begins tells the kind of the piece that may stand at its front. So where a text
+/// begins `<!--` "no piece" means "no comment", and so on for each of the other beginnings.
+pub fn beginnings()
+    ensures comment { (mode : Mode) (p : Piece) (front back : List ℕ) → Stands mode p front back → BeginsWith (codes "<!--") (front ++ back) → p ≡ Comment }
+    ensures cdata { (mode : Mode) (p : Piece) (front back : List ℕ) → Stands mode p front back → BeginsWith (codes "<![CDATA[") (front ++ back) → (text : List ℕ) × (p ≡ Cdata text) }
+    ensures instruction { (mode : Mode) (p : Piece) (front back : List ℕ) → Stands mode p front back → BeginsWith (codes "<?") (front ++ back) → (p ≡ Instruction) ⊎ ((encoding : Option (List ℕ)) × (p ≡ Declaration encoding)) }
+    ensures reference { (mode : Mode) (p : Piece) (front back : List ℕ) → Stands mode p front back → BeginsWith (codes "&") (front ++ back) → (c : ℕ) × (p ≡ Reference c) }
+    ensures doctype { (mode : Mode) (p : Piece) (front back : List ℕ) → Stands mode p front back → BeginsWith (codes "<!DOCTYPE") (front ++ back) → ⊥ }
+    ensures tag { (mode : Mode) (p : Piece) (front back : List ℕ) → Stands mode p front back → BeginsWith (codes "<") (front ++ back) → (BeginsWith (codes "<!--") (front ++ back) → ⊥) → (BeginsWith (codes "<?") (front ++ back) → ⊥) → (BeginsWith (codes "<![CDATA[") (front ++ back) → ⊥) → ((tag : Tag) × (p ≡ Start tag)) ⊎ ((name : QName) × (p ≡ End name)) }
 {}
 
 /// A text has at most one document.
@@ -29,4 +43,9 @@ pub fn one_fault()
 /// `xmlns`, local parts are names without colon, and all text is made of Chars. Its hints are valid.
 pub fn sound_document()
     ensures { (text : List ℕ) (root : Element) (hints : List Hint) → IsDocument text root hints → IsSound root × AreValid hints }
+{}
+
+/// A text whose second byte is `?` has a document only where its first byte is `<`.
+pub fn document_gate()
+    ensures { (b : ℕ) (rest : List ℕ) (e : Element) (h : List Hint) → IsDocument (b ∷ 0x3F ∷ rest) e h → b ≡ 0x3C }
 {}
