@@ -13,6 +13,8 @@ mod memory_desk;
 mod memory_sink;
 mod sparse_desk;
 mod std_sink;
+#[cfg(test)]
+mod tests;
 mod whole;
 mod windows;
 
@@ -25,4 +27,7 @@ pub use sparse_desk::SparseDesk;
 pub use std_sink::StdSink;
 pub use whole::{ReadStop, read_all};
 pub use windows::{WindowStop, append, copy_range, window};
-pub use xmp_values::{Bytes, Digits, Memory, Name, Sequence, Text, Words};
+pub use xmp_values::{
+    Bytes, Digits, Fault, Hint, Hints, Memory, Name, Part, Place, Rule, Sequence, Span, Text,
+    Words, is_char, is_name,
+};
