@@ -84,7 +84,7 @@ not_refused : (s : Segment) → IsSegment s → class_of s.marker ≡ Refused �
 not_refused s (inl i) e = elim (inner_class s i) [ inl a ↦ let k : Single ≡ Refused = sym a.0 ∙ e in cc | inr a ↦ let k : Sized ≡ Refused = sym a.0 ∙ e in cc ]
 not_refused s (inr t) e = let k : Last ≡ Refused = sym t.last ∙ e in cc
 
-sized_body : (s : Segment) → IsSegment s → class_of s.marker ≡ Sized → HasLength s.body
+pub sized_body : (s : Segment) → IsSegment s → class_of s.marker ≡ Sized → HasLength s.body
 sized_body s (inl i) e = elim (inner_class s i) [ inl a ↦ let k : Single ≡ Sized = sym a.0 ∙ e in absurd (cc) | inr a ↦ a.1 ]
 sized_body s (inr t) e = let k : Last ≡ Sized = sym t.last ∙ e in absurd (cc)
 

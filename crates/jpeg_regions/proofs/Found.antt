@@ -26,7 +26,7 @@ bare_at kind start place end = record { kind = kind; range = span start end; pay
 bare_is : (kind : RegionKind) (start p q r e : ℕ) → p ≡ q → e ≡ r → bare_at kind start p e ≡ bare_at kind start q r
 bare_is kind start p q r e a b = ap (λ (k : ℕ). bare_at kind start k e) a ∙ ap (λ (k : ℕ). bare_at kind start q k) b
 
-length-text : (s : Segment) → length (text s) ≡ s.fill + 1 + length s.body
+pub length-text : (s : Segment) → length (text s) ≡ s.fill + 1 + length s.body
 length-text s = omega (arith, length-append (replicate s.fill 0xFF) (s.marker ∷ s.body), length-replicate {A = ℕ} s.fill 0xFF)
 
 module _ (file : List ℕ) (start place byte : ℕ) (a : AfterFill file start place) (e : drop place file ≡ byte ∷ drop (place + 1) file) where

@@ -1,6 +1,9 @@
+pub mod Calls
 pub mod Faults
 pub mod Found
 pub mod Fronts
 pub mod Kept
+pub mod Near
 pub mod Pieces
+pub mod Sizes
 pub mod Unique

@@ -45,3 +45,9 @@ piece_is file at count len start end full a b =
     ∙ ap (λ (k : ℕ). take k (drop at file)) (let rest : length (drop at file) ≡ len - at = length-drop at file ∙ ap (λ (k : ℕ). k - at) full in
     let e : end - at ≡ min count (length (drop at file)) = omega (arith, b, rest) in e)
     ∙ take_min count (drop at file)
+
+-- the same of a piece that was read
+pub piece_read : (file to : List ℕ) (at count len start end : ℕ) → length file ≡ len → start ≡ at → end ≡ at + min count (len - at) → length to ≡ end - start
+    → to ≡ take (length to) (drop start file) → to ≡ take count (drop at file)
+piece_read file to at count len start end full a b size e =
+    e ∙ ap (λ (k : ℕ). take k (drop start file)) size ∙ piece_is file at count len start end full a b

@@ -7,6 +7,7 @@
 #![tactic(auto)]
 
 mod cutting;
+mod from_desk;
 mod kind;
 mod laws;
 mod list;
@@ -14,6 +15,7 @@ mod marker;
 mod reading;
 
 pub use cutting::JpegStop;
+pub use from_desk::CutStop;
 pub use kind::RegionKind;
 pub use laws::one_answer;
 pub use list::Regions;

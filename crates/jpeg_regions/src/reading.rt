@@ -92,6 +92,7 @@ impl Reading {
     pub fn wanted(&self) -> FileSpan
         ensures start { result.start ≡ self.now.at }
         ensures end { result.end ≡ self.now.at + min (count_of self.now.wants) (self.now.len - self.now.at) }
+        ensures most { result.end ≤ result.start + 75 }
     {
         let count = match self.wants {
             Wants::Start | Wants::Length(_) => 2,

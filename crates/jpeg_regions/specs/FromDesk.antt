@@ -1,0 +1,77 @@
+-- What cutting a file of a device does and answers.
+use Rattle.std.specs.Prelude.{◌≡◌, ℕ, ◌+◌, ◌-◌, ◌<◌, ◌≤◌, min, List, [], ◌++◌, length, take, drop, All, MatchResult, OnOk, IfOk, IsTrue, slice_get, Ok, Err, Some}
+use Rattle.std.specs.declared.option.Option.{Option}
+use Rattle.std.specs.declared.result.Result.{Result}
+use Rattle.xmp_base.specs.Device.{DeskState, Told, Moved, Rose, SameFiles, NotFewer, OthersKeep, bytes_of, is_known, len_of}
+use Rattle.xmp_base.specs.declared.device.Failed.{Failed}
+use Rattle.jpeg_regions.specs.declared.reading.Found.{Found}
+use Rattle.jpeg_regions.specs.declared.reading.Reading.{Reading}
+use Rattle.jpeg_regions.specs.declared.from_desk.CutStop.{CutStop}
+use Rattle.jpeg_regions.specs.declared.from_desk.CutStop.TheVariants.{Fault, Device, Memory}
+use Rattle.jpeg_regions.specs.Jpeg.{Region, Cuts, Jpeg, Broken, FirstFault}
+use Rattle.jpeg_regions.specs.Cutting.{CutSoFar, Tiles}
+
+-- the list of the file, or its first fault
+abbrev pub CutFromAnswer : List ℕ → Result (List Region) CutStop → Type 0
+CutFromAnswer file (Ok regions) = Jpeg file regions
+CutFromAnswer file (Err (Fault rule place)) = FirstFault file rule place
+CutFromAnswer file (Err Device) = Unit {0}
+CutFromAnswer file (Err Memory) = Unit {0}
+
+-- the end of what is read of a region: of the tail its marker, else at most 75 bytes of the payload
+abbrev pub near_end : Region → ℕ
+near_end r = min r.payload.end (r.payload.start + 75)
+
+-- the bytes that were moved lie in what is read of a region
+abbrev pub IsNear : List Region → Moved → Type 0
+IsNear regions m = (i : ℕ) × (r : Region) × (slice_get regions i ≡ Some r) × (r.range.start ≤ m.1) × (m.1 + m.2 ≤ near_end r)
+
+-- Reads of this name were added. Where the file is told and can be cut, they are near the beginnings of its regions.
+pub record ReadsNear (s t : DeskState) (name : List ℕ) : Type 0 where
+  pub named : Told s.reads (λ reads. (more : List Moved) × (t.reads ≡ Some (reads ++ more)) × All (λ m. m.0 ≡ name) more
+      × Told s.files (λ files. (regions : List Region) → Cuts (bytes_of files name) regions → All (λ m. IsNear regions m) more))
+
+-- reads of this name inside a range were added
+abbrev pub ReadsWithin : List ℕ → ℕ → ℕ → Option (List Moved) → Option (List Moved) → Type 0
+ReadsWithin name start end old new = Told old (λ reads. (more : List Moved) × (new ≡ Some (reads ++ more))
+    × All (λ m. (m.0 ≡ name) × (start ≤ m.1) × (m.1 + m.2 ≤ end)) more)
+
+-- some calls that read this name inside a range, and change nothing
+pub record ReadsOnly (s t : DeskState) (name : List ℕ) (start end : ℕ) : Type 0 where
+  pub same : SameFiles s t
+  pub counts : NotFewer s t
+  pub lens : t.lens ≡ s.lens
+  pub reads : ReadsWithin name start end s.reads t.reads
+
+-- the first bytes of the slice are those of the file from a place on
+pub record FilledFrom (s t : DeskState) (name : List ℕ) (at size done : ℕ) (to : List ℕ) : Type 0 where
+  pub calls : ReadsOnly s t name at (at + size)
+  pub bytes : Told s.files (λ files. take done to ≡ take done (drop at (bytes_of files name)))
+
+pub record FillCall (s t : DeskState) (name : List ℕ) (at : ℕ) (to : List ℕ) (result : Result (Unit {0}) Failed) : Type 0 where
+  pub calls : ReadsOnly s t name at (at + length to)
+  pub bytes : OnOk result (Told s.files (λ files. to ≡ take (length to) (drop at (bytes_of files name))))
+  pub failed : MatchResult result (λ _. Unit {0}) (λ _. Rose s.faults t.faults)
+
+-- what a piece more of a file leads to
+abbrev pub AdvanceAnswer : List ℕ → List Found → Result (Option Reading) CutStop → Type 0
+AdvanceAnswer file found (Ok next) = CutSoFar file found next
+AdvanceAnswer file found (Err (Fault rule place)) = Broken file rule place
+AdvanceAnswer file found (Err Device) = Unit {0}
+AdvanceAnswer file found (Err Memory) = Unit {0}
+
+-- What a call of a device's file does, whatever it answers.
+pub record CutCalls (s t : DeskState) (name : List ℕ) : Type 0 where
+  pub same : SameFiles s t
+  pub counts : NotFewer s t
+  pub reads : ReadsNear s t name
+
+-- The clauses of `cut_from`, from the desk's state s to t.
+pub record CutFromCall (s t : DeskState) (name : List ℕ) (result : Result (List Region) CutStop) : Type 0 where
+  pub calls : CutCalls s t name
+  pub others : OthersKeep s.lens t.lens name
+  pub known : IsTrue (is_known t name)
+  pub told : Told s.files (λ files. CutFromAnswer (bytes_of files name) result)
+  -- the regions lie one after another in the file
+  pub tiles : IfOk result (λ regions. Tiles 2 (len_of t name) regions)
+  pub device : result ≡ Err Device → Rose s.faults t.faults

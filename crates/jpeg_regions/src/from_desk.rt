@@ -1,0 +1,117 @@
+//! Cutting a file of a device, which keeps the picture where it is.
+ghost use Rattle.std.specs.Prelude.{◌≡◌, ℕ, ◌+◌, ◌-◌, ◌≤◌, ◌<◌, ◌^◌, List, length, IfOk, IsTrue, min, Err, Some};
+ghost use Rattle.xmp_base.specs.Device.{Told, Rose, bytes_of, is_known, len_of};
+ghost use Rattle.jpeg_regions.specs.Jpeg.{Cuts};
+ghost use Rattle.jpeg_regions.specs.Wanted.{count_of};
+ghost use Rattle.jpeg_regions.specs.Cutting.{BeginsJpeg, CutSoFar, Numbers, Tiles, left};
+ghost use Rattle.jpeg_regions.specs.FromDesk.{AdvanceAnswer, CutCalls, CutFromAnswer, CutFromCall, FillCall, ReadsOnly};
+
+use crate::cutting::{JpegStop, take};
+use crate::list::Regions;
+use crate::reading::{Found, Reading};
+use std::alloc::Global;
+use xmp_base::{Desk, Failed, SizeStop};
+use xmp_values::Rule;
+
+/// Why a file of a device gives no list of regions.
+#[derive(Clone, Copy, Debug, PartialEq, Eq)]
+pub enum CutStop {
+    /// The first broken rule, of 10 to 14, with its place in the file.
+    Fault(Rule, u64),
+    Device,
+    Memory,
+}
+
+/// Fills `to` with the file's bytes from `at` on.
+fn fill<D: Desk>(desk: &mut D, name: &str, at: u64, to: &mut [u8]) -> Result<(), Failed>
+    requires known { IsTrue (is_known (D.state desk.old) name.now) }
+    requires within { at + length to.old ≤ len_of (D.state desk.old) name.now }
+    requires room { at + length to.old < 2 ^ 64 }
+    ensures call { FillCall (D.state desk.old) (D.state desk.new) name.now at to.new result }
+{
+    let mut done = 0;
+    while done < to.len() {
+        done += desk.read_at(name, at + done as u64, &mut to[done..])?;
+    }
+    Ok(())
+}
+
+/// Reads the bytes that are wanted, and takes them.
+fn advance<D: Desk>(
+    desk: &mut D,
+    name: &str,
+    found: &mut Vec<Found>,
+    reading: Reading,
+) -> Result<Option<Reading>, CutStop>
+    requires known { IsTrue (is_known (D.state desk.old) name.now) }
+    requires len { len_of (D.state desk.old) name.now ≡ reading.len }
+    requires numbers { Numbers reading.len found.old.items (Some reading) }
+    ensures calls { ReadsOnly (D.state desk.old) (D.state desk.new) name.now reading.at
+        (reading.at + min (count_of reading.wants) (reading.len - reading.at)) }
+    ensures less { IfOk result (λ next. left next < left (Some reading)) }
+    ensures numbers { IfOk result (λ next. Numbers reading.len found.new.items next) }
+    ensures answer { Told (D.state desk.old).files (λ files. length (bytes_of files name.now) ≡ reading.len
+        → CutSoFar (bytes_of files name.now) found.old.items (Some reading) → AdvanceAnswer (bytes_of files name.now) found.new.items result) }
+    ensures device { result ≡ Err CutStop.Device → Rose (D.state desk.old).faults (D.state desk.new).faults }
+{
+    let wanted = reading.wanted();
+    let mut buffer = [0u8; 75];
+    let piece = &mut buffer[..(wanted.end - wanted.start) as usize];
+    match fill(desk, name, wanted.start, piece) {
+        Ok(()) => (),
+        Err(Failed) => return Err(CutStop::Device),
+    }
+    match take(found, reading, piece) {
+        Ok(next) => Ok(next),
+        Err(JpegStop::Fault(rule, place)) => Err(CutStop::Fault(rule, place)),
+        Err(JpegStop::Memory) => Err(CutStop::Memory),
+    }
+}
+
+/// The regions of a file of `len` bytes.
+fn cut_known<D: Desk>(alloc: Global, desk: &mut D, name: &str, len: u64) -> Result<Regions, CutStop>
+    requires known { IsTrue (is_known (D.state desk.old) name.now) }
+    requires len { len_of (D.state desk.old) name.now ≡ len }
+    requires room { 2 ≤ len }
+    requires told { Told (D.state desk.old).files (λ files. length (bytes_of files name.now) ≡ len) }
+    requires begins { Told (D.state desk.old).files (λ files. BeginsJpeg (bytes_of files name.now)) }
+    ensures calls { CutCalls (D.state desk.old) (D.state desk.new) name.now }
+    ensures lens { (D.state desk.new).lens ≡ (D.state desk.old).lens }
+    ensures told { Told (D.state desk.old).files (λ files. CutFromAnswer (bytes_of files name.now) result) }
+    ensures tiles { IfOk result (λ regions. Tiles 2 len regions) }
+    ensures device { result ≡ Err CutStop.Device → Rose (D.state desk.old).faults (D.state desk.new).faults }
+{
+    let mut found = Vec::new(alloc);
+    let mut next = Some(Reading::new(len, 2));
+    while let Some(reading) = next {
+        next = match advance(desk, name, &mut found, reading) {
+            Ok(next) => next,
+            Err(stop) => return Err(stop),
+        };
+    }
+    match Regions::of(found) {
+        Ok(regions) => Ok(regions),
+        Err((rule, place)) => Err(CutStop::Fault(rule, place)),
+    }
+}
+
+impl Regions {
+    /// The regions of a file of a device. Of a region no byte is read behind the 75th of its
+    /// payload, and of the tail none behind its marker. A file that has gone since it was known
+    /// has no byte left.
+    pub fn cut_from<D: Desk>(alloc: Global, desk: &mut D, name: &str) -> Result<Regions, CutStop>
+        requires known { IsTrue (is_known (D.state desk.old) name.now) }
+        requires begins { Told (D.state desk.old).files (λ files. BeginsJpeg (bytes_of files name.now)) }
+        ensures call { CutFromCall (D.state desk.old) (D.state desk.new) name.now result }
+    {
+        let len = match desk.size(name) {
+            Ok(len) => len,
+            Err(SizeStop::Absent) => return Err(CutStop::Fault(Rule::NoTail, 0)),
+            Err(SizeStop::Failed) => return Err(CutStop::Device),
+        };
+        if len < 2 {
+            return Err(CutStop::Fault(Rule::NoTail, len));
+        }
+        cut_known(alloc, desk, name, len)
+    }
+}
