@@ -15,3 +15,4 @@ pub mod Stopping
 pub mod Rows
 pub mod KindsByText
 pub mod Gate
+pub mod Worked

@@ -35,11 +35,11 @@ equals_row a b c d (before, after, ba, bb, is) (before', after', ba', bb', is') 
 -- ---- references
 
 -- digits of which the number is the character
-abbrev Counts : ℕ → List ℕ → ℕ → List ℕ → Type 0
+abbrev pub Counts : ℕ → List ℕ → ℕ → List ℕ → Type 0
 Counts base mark c inner = (digits : List ℕ) × (digits ≢ []) × IsTrue (list_all (is_digit base) digits) × (c ≡ number_from base 0 digits) × (inner ≡ mark ++ digits)
 
 -- what a reference names, between `&` and `;`
-abbrev Names : ℕ → List ℕ → Type 0
+abbrev pub Names : ℕ → List ℕ → Type 0
 Names c inner = ((e : Entity) × (c ≡ entity_char e) × (inner ≡ codes "&" ++ entity_name e)) ⊎ (Counts 10 (codes "&#") c inner ⊎ Counts 16 (codes "&#x") c inner)
 
 -- none of the characters of a reference but `;` is y
@@ -54,7 +54,7 @@ pub record NotAmong (y : ℕ) : Type 0 where
   pub no_digit : is_digit 10 y ≡ false
   pub no_hexadecimal : is_digit 16 y ≡ false
 
-semicolon : NotAmong 0x3B
+pub semicolon : NotAmong 0x3B
 semicolon = record { lt = refl; gt = refl; amp = refl; apos = refl; quot = refl; decimal = refl; hexadecimal = refl; no_digit = refl; no_hexadecimal = refl }
 
 pub double_quote : NotAmong 0x22
@@ -73,13 +73,13 @@ entity_all y n Quot = n.quot
 digits_all : (base : ℕ) (y : ℕ) → is_digit base y ≡ false → (mark digits : List ℕ) → IsTrue (list_all (is_not y) mark) → IsTrue (list_all (is_digit base) digits) → IsTrue (list_all (is_not y) (mark ++ digits))
 digits_all base y fails mark digits m h = all_append (is_not y) mark digits m (all_weaker (is_digit base) (is_not y) (λ x k. differs (is_digit base) y fails x k) digits h)
 
-inner_all : (y c : ℕ) (inner : List ℕ) → NotAmong y → Names c inner → IsTrue (list_all (is_not y) inner)
+pub inner_all : (y c : ℕ) (inner : List ℕ) → NotAmong y → Names c inner → IsTrue (list_all (is_not y) inner)
 inner_all y c inner n (inl (e, is, at)) = subst (λ (t : List ℕ). IsTrue (list_all (is_not y) t)) (sym at) (entity_all y n e)
 inner_all y c inner n (inr (inl (digits, some, all, is, at))) = subst (λ (t : List ℕ). IsTrue (list_all (is_not y) t)) (sym at) (digits_all 10 y n.no_digit (codes "&#") digits n.decimal all)
 inner_all y c inner n (inr (inr (digits, some, all, is, at))) = subst (λ (t : List ℕ). IsTrue (list_all (is_not y) t)) (sym at) (digits_all 16 y n.no_hexadecimal (codes "&#x") digits n.hexadecimal all)
 
 -- a reference is what it names and `;`
-reference_parts : (c : ℕ) (text : List ℕ) → SpellsReference c text → (inner : List ℕ) × Names c inner × (text ≡ inner ++ codes ";")
+pub reference_parts : (c : ℕ) (text : List ℕ) → SpellsReference c text → (inner : List ℕ) × Names c inner × (text ≡ inner ++ codes ";")
 reference_parts c text (inl (e, is, at)) = (codes "&" ++ entity_name e, inl (e, is, refl), at)
 reference_parts c text (inr (inl (digits, some, all, is, char, at))) = (codes "&#" ++ digits, inr (inl (digits, some, all, is, refl)), at)
 reference_parts c text (inr (inr (digits, some, all, is, char, at))) = (codes "&#x" ++ digits, inr (inr (digits, some, all, is, refl)), at)
@@ -99,7 +99,7 @@ char_is Apos = refl
 char_is Quot = refl
 
 -- an entity's name doesn't begin with `#`
-no_hash : (e : Entity) (rest : List ℕ) → entity_name e ≡ 0x23 ∷ rest → ⊥
+pub no_hash : (e : Entity) (rest : List ℕ) → entity_name e ≡ 0x23 ∷ rest → ⊥
 no_hash Lt rest e = let h = head_same 0x6C 0x23 (codes "t") rest e in omega arith
 no_hash Gt rest e = let h = head_same 0x67 0x23 (codes "t") rest e in omega arith
 no_hash Amp rest e = let h = head_same 0x61 0x23 (codes "mp") rest e in omega arith

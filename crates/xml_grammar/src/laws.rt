@@ -1,8 +1,10 @@
 //! Laws over the definitions: functions that do nothing, each with a law as its contract.
-ghost use Rattle.std.specs.Prelude.{◌≡◌, ◌⊎◌, ◌++◌, ◌∷◌, List, Option, ℕ, codes};
+ghost use Rattle.std.specs.Prelude.{◌≡◌, ◌⊎◌, ◌++◌, ◌∷◌, [], List, Option, ℕ, codes, replicate};
+ghost use Rattle.std.specs.List.{concat};
 ghost use Rattle.xmp_values.specs.declared.hints.Hint.{Hint};
 ghost use Rattle.xmp_values.specs.Hints.{AreValid};
 ghost use Rattle.xmp_values.specs.declared.rules.Rule.{Rule};
+ghost use Rattle.xmp_values.specs.declared.rules.Rule.TheVariants.{Utf16, BadChar, BadReference, OutsideRoot, Mismatch, TwiceAttribute, TooDeep, Unfinished};
 ghost use Rattle.xml_grammar.specs.declared.elements.Element.{Element};
 ghost use Rattle.xml_grammar.specs.declared.tags.QName.{QName};
 ghost use Rattle.xml_grammar.specs.declared.tags.Tag.{Tag};
@@ -48,4 +50,18 @@ pub fn sound_document()
 /// A text whose second byte is `?` has a document only where its first byte is `<`.
 pub fn document_gate()
     ensures { (b : ℕ) (rest : List ℕ) (e : Element) (h : List Hint) → IsDocument (b ∷ 0x3F ∷ rest) e h → b ≡ 0x3C }
+{}
+
+/// What the definitions say of some small texts.
+pub fn worked_texts()
+    ensures document { (e : Element) × (e.at ≡ 0) × (e.name.local ≡ codes "a") × (e.children ≡ []) × IsDocument (codes "<a/>") e [] }
+    ensures bracket { IsFault (codes "<a>]]></a>") BadChar 3 }
+    ensures twice { IsFault (codes "<a b=\"1\" b=\"2\"/>") TwiceAttribute 0 }
+    ensures entity { IsFault (codes "<a>&copy;</a>") BadReference 3 }
+    ensures open_still { IsFault (codes "<a>") Unfinished 3 }
+    ensures second_root { IsFault (codes "<a/><b/>") OutsideRoot 4 }
+    ensures no_char { IsFault (0xEF ∷ 0xBB ∷ 0xBF ∷ codes "<a>&#0;</a>") BadReference 6 }
+    ensures other_end { IsFault (codes "<a><b></a>") Mismatch 6 }
+    ensures utf16 { IsFault (0xFF ∷ 0xFE ∷ 0x3C ∷ 0 ∷ []) Utf16 0 }
+    ensures deep { IsFault (concat (replicate 101 (codes "<a>"))) TooDeep 300 }
 {}

@@ -11,6 +11,8 @@ mod tags;
 mod tokens;
 
 pub use elements::{Attribute, Attributes, Child, Children, Element};
-pub use laws::{beginnings, document_gate, one_document, one_fault, one_piece, sound_document};
+pub use laws::{
+    beginnings, document_gate, one_document, one_fault, one_piece, sound_document, worked_texts,
+};
 pub use tags::{QName, RawAttribute, Tag};
 pub use tokens::{Mode, Token};
