@@ -16,3 +16,5 @@ pub mod Rows
 pub mod KindsByText
 pub mod Gate
 pub mod Worked
+pub mod Scoping
+pub mod Repeats
