@@ -1,4 +1,5 @@
 pub mod Calls
+pub mod Exchanges
 pub mod Faults
 pub mod Found
 pub mod Fronts

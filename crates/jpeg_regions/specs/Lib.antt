@@ -1,4 +1,5 @@
 pub mod Cutting
+pub mod Exchanged
 pub mod FromDesk
 pub mod Jpeg
 pub mod Kinds

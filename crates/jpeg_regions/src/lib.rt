@@ -17,5 +17,5 @@ mod reading;
 pub use cutting::JpegStop;
 pub use from_desk::CutStop;
 pub use kind::RegionKind;
-pub use laws::one_answer;
+pub use laws::{exchange, one_answer};
 pub use list::Regions;
