@@ -7,3 +7,8 @@ pub mod Attributes
 pub mod Tails
 pub mod Chars
 pub mod LineEnds
+pub mod Steps
+pub mod NameLaws
+pub mod ReferenceLaws
+pub mod ValueLaws
+pub mod TagLaws
