@@ -12,3 +12,4 @@ pub mod NameLaws
 pub mod ReferenceLaws
 pub mod ValueLaws
 pub mod TagLaws
+pub mod SectionLaws

@@ -56,7 +56,7 @@ qname_takes cs x e =
         let all : cs ≡ (text ++ codes ":" ++ m.0) ++ b.0.1 = at ∙ ap (λ (t : List ℕ). text ++ t) (colon ∙ ap (λ (t : List ℕ). codes ":" ++ t) m.2) ∙ regroup text (codes ":") m.0 b.0.1 in
         subst (λ (y : QName × List ℕ). (t : List ℕ) × SpellsQName y.0 t × (cs ≡ t ++ y.1)) (some_is (record { prefix = Some name; local = b.0.0 }, b.0.1) x b.2) (text ++ codes ":" ++ m.0, (text, m.0, spelled, m.1, refl), all)
 
-or_false : (a b : Bool) → (a || b) ≡ false → (a ≡ false) × (b ≡ false)
+pub or_false : (a b : Bool) → (a || b) ≡ false → (a ≡ false) × (b ≡ false)
 or_false true b e = absurd cc
 or_false false b e = (refl, e)
 

@@ -13,7 +13,7 @@ pub and_parts : (a b : Bool) → (a && b) ≡ true → (a ≡ true) × (b ≡ tr
 and_parts true b e = (refl, e)
 and_parts false b e = absurd cc
 
-word_bytes : (w : List ℕ) → is_ascii w ≡ true → IsAscii w
+pub word_bytes : (w : List ℕ) → is_ascii w ≡ true → IsAscii w
 word_bytes [] e i = omega arith
 word_bytes (b ∷ bs) e zero = ltb-true b 128 (and_parts _ _ e).0
 word_bytes (b ∷ bs) e (suc i) = word_bytes bs (and_parts (ltb b 128) (is_ascii bs) e).1 i
