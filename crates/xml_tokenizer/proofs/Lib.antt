@@ -13,3 +13,4 @@ pub mod ReferenceLaws
 pub mod ValueLaws
 pub mod TagLaws
 pub mod SectionLaws
+pub mod DeclarationLaws
