@@ -74,7 +74,7 @@ given_other word gap rest h s none =
 abbrev pub TakesQuoted : (ℕ → Bool) → ℕ → List ℕ → List ℕ × List ℕ → Type 0
 TakesQuoted p quote cs x = (run : List ℕ) × (run ≢ []) × IsTrue (list_all p run) × (x.0 ≡ encode_utf8_all run) × (cs ≡ run ++ (quote ∷ x.1))
 
-some_taken : (p : ℕ → Bool) (cs : List ℕ) → starts_with p cs ≡ true → taken p cs ≢ []
+pub some_taken : (p : ℕ → Bool) (cs : List ℕ) → starts_with p cs ≡ true → taken p cs ≢ []
 some_taken p [] e h = absurd cc
 some_taken p (c ∷ cs) e h = let k : taken p (c ∷ cs) ≡ c ∷ taken p cs = rw e refl in absurd cc
 

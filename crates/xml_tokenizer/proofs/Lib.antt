@@ -14,3 +14,5 @@ pub mod ValueLaws
 pub mod TagLaws
 pub mod SectionLaws
 pub mod DeclarationLaws
+pub mod TokenLaws
+pub mod FaultLaws

@@ -22,7 +22,7 @@ use Rattle.xml_tokenizer.proofs.Words.{after_takes, after_again}
 
 -- ---- tests
 
-or_false : (a b : Bool) → (a || b) ≡ false → (a ≡ false) × (b ≡ false)
+pub or_false : (a b : Bool) → (a || b) ≡ false → (a ≡ false) × (b ≡ false)
 or_false true b e = absurd cc
 or_false false b e = (refl, e)
 
@@ -30,7 +30,7 @@ or_false_again : (a b : Bool) → a ≡ false → b ≡ false → (a || b) ≡ f
 or_false_again true b e f = absurd cc
 or_false_again false b e f = f
 
-not_true : (a : Bool) → not a ≡ true → a ≡ false
+pub not_true : (a : Bool) → not a ≡ true → a ≡ false
 not_true true e = absurd cc
 not_true false e = refl
 
@@ -43,7 +43,7 @@ pub record Plain (quote c : ℕ) : Type 0 where
   pub feed : eqb c 10 ≡ false
   pub return : eqb c 13 ≡ false
 
-plain_facts : (quote c : ℕ) → is_value quote c ≡ true → Plain quote c
+pub plain_facts : (quote c : ℕ) → is_value quote c ≡ true → Plain quote c
 unfolding is_value
 plain_facts quote c h =
     let k = both (is_char c) _ h in
@@ -125,7 +125,7 @@ ends_behind (c ∷ cs) e = by_test (eqb c 10) refl e
     by_test true f h = absurd (no_cons c cs h)
     by_test false f h = rw f refl
 
-feed_is : (c : ℕ) (cs : List ℕ) → eqb c 10 ≡ false → past_feed (c ∷ cs) ≡ c ∷ cs
+pub feed_is : (c : ℕ) (cs : List ℕ) → eqb c 10 ≡ false → past_feed (c ∷ cs) ≡ c ∷ cs
 feed_is c cs e = rw e refl
 
 ends_other : (c : ℕ) (cs : List ℕ) → eqb c 13 ≡ false → line_ends (c ∷ cs) ≡ c ∷ line_ends cs

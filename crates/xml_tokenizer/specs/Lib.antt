@@ -1,10 +1,12 @@
 pub mod Classes
 pub mod Declarations
+pub mod Faults
 pub mod Lines
 pub mod Names
 pub mod References
 pub mod Runs
 pub mod Sections
+pub mod Stands
 pub mod Steps
 pub mod Tags
 pub mod Tokens

@@ -14,6 +14,7 @@ mod runs;
 mod sections;
 mod stops;
 mod tags;
+mod texts;
 mod tokens;
 mod values;
 
@@ -27,7 +28,8 @@ pub use runs::{
     width_of,
 };
 pub use sections::{cdata_of, past_comment, past_instruction, starts_blank};
-pub use stops::Miss;
+pub use stops::{Miss, TokenStop};
 pub use tags::{end_of, start_of};
+pub use texts::{behind_mark, text_of};
 pub use tokens::token_of;
 pub use values::{after_feed, past_equals, quote_of, value_of};

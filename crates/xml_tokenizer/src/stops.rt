@@ -4,7 +4,7 @@ ghost use Rattle.std.specs.Prelude.{◌≡◌};
 ghost use Rattle.xml_tokenizer.specs.declared.stops.Miss.TheVariants as misses;
 
 use std::alloc::AllocError;
-use xmp_values::Memory;
+use xmp_values::{Memory, Rule};
 
 /// Why a step read nothing.
 #[derive(Debug, Drop)]
@@ -28,4 +28,12 @@ impl From<AllocError> for Miss {
     fn from(_error: AllocError) -> Miss {
         Miss::Memory
     }
+}
+
+/// Why there is no token.
+#[derive(Debug, Drop)]
+pub enum TokenStop {
+    Memory,
+    /// The least rule that holds for what stands there.
+    Fault(Rule),
 }

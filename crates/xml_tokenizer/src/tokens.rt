@@ -1,7 +1,10 @@
 //! The token at the front of a text.
 
-ghost use Rattle.std.specs.Prelude.{◌≡◌};
+ghost use Rattle.std.specs.Prelude.{◌≡◌, ◌≢◌, [], IfOk, IfErr};
 ghost use Rattle.std.specs.Str.{chars};
+ghost use Rattle.xml_grammar.specs.Pieces.{StandsRow, pieces_of};
+ghost use Rattle.xml_tokenizer.specs.Faults.{markup_rule, rule_at};
+ghost use Rattle.xml_tokenizer.specs.Stands.{Fails, IsBehind};
 ghost use Rattle.xml_tokenizer.specs.Tokens.{is_start, is_inside, question_at, section_at, markup_at, bracket_at, run_at, token_at};
 ghost use Rattle.xml_tokenizer.specs.Steps.{Gives};
 
@@ -10,12 +13,12 @@ use crate::declarations::declaration_of;
 use crate::references::reference_of;
 use crate::runs::{after, begins, behind, behind_char, next_char, run, starts_with};
 use crate::sections::{cdata_of, past_comment, past_instruction};
-use crate::stops::Miss;
+use crate::stops::{Miss, TokenStop};
 use crate::tags::{end_of, start_of};
 use crate::values::after_feed;
 use std::alloc::Global;
 use xml_grammar::{Mode, Token};
-use xmp_values::Text;
+use xmp_values::{Rule, Text};
 
 fn is_start(mode: Mode) -> bool
     ensures { result ≡ is_start mode }
@@ -106,9 +109,8 @@ fn run_of(inside: bool, text: &str) -> Result<(Token<'_>, &str), Miss>
     Ok((Token::Run(Text::raw(plain.as_bytes())), rest))
 }
 
-/// The token at the front of a text, and the text after it.
 #[tactic(auto, unfolding(crate::specs::Tokens::token_at))]
-pub fn token_of(alloc: Global, mode: Mode, text: &str) -> Result<(Token<'_>, &str), Miss>
+fn read(alloc: Global, mode: Mode, text: &str) -> Result<(Token<'_>, &str), Miss>
     ensures { Gives (λ x. (x.0, chars x.1.now)) result (token_at mode (chars text.now)) }
 {
     match next_char(text) {
@@ -120,5 +122,51 @@ pub fn token_of(alloc: Global, mode: Mode, text: &str) -> Result<(Token<'_>, &st
         Some(('\r', rest)) => Ok((Token::LineEnd, after_feed(rest))),
         Some(_) => run_of(is_inside(mode), text),
         None => Err(Miss::Nothing),
+    }
+}
+
+/// The rule for a text that begins with `<` and then so.
+#[tactic(auto, unfolding(crate::specs::Faults::markup_rule))]
+fn markup_rule(text: &str) -> Rule
+    ensures { result ≡ markup_rule (chars text.now) }
+{
+    if begins("!DOCTYPE", text) {
+        Rule::Doctype
+    } else if begins("!--", text) {
+        Rule::BadComment
+    } else if begins("?", text) {
+        Rule::BadInstruction
+    } else if begins("![CDATA[", text) {
+        Rule::BadCdata
+    } else {
+        Rule::BadTag
+    }
+}
+
+#[tactic(auto, unfolding(crate::specs::Faults::rule_at))]
+fn rule_of(text: &str) -> Rule
+    ensures { result ≡ rule_at (chars text.now) }
+{
+    match next_char(text) {
+        Some(('<', rest)) => markup_rule(rest),
+        Some(('&', _)) => Rule::BadReference,
+        Some(_) => Rule::BadChar,
+        None => Rule::Unfinished,
+    }
+}
+
+/// The token at the front of a text, and the text after it.
+pub fn token_of(alloc: Global, mode: Mode, text: &str) -> Result<(Token<'_>, &str), TokenStop>
+    // Its pieces stand there, one after the other, before what is left.
+    ensures stands { IfOk result (λ x. StandsRow mode (pieces_of x.0) (chars text.now) (chars x.1.now)) }
+    // It has one piece at least, and takes one byte at least.
+    ensures some { IfOk result (λ x. (pieces_of x.0 ≢ []) × IsBehind text.now x.1.now) }
+    // Without a token no piece stands there, and the rule goes by what the text begins with.
+    ensures fault { IfErr result (Fails mode (chars text.now)) }
+{
+    match read(alloc, mode, text) {
+        Ok((token, rest)) => Ok((token, rest)),
+        Err(Miss::Nothing) => Err(TokenStop::Fault(rule_of(text))),
+        Err(Miss::Memory) => Err(TokenStop::Memory),
     }
 }

@@ -1,0 +1,114 @@
+-- Which rule holds where no piece stands.
+use Rattle.std.proofs.Common.{◌≡◌, ◌≢◌, ℕ, Bool, true, false, cond, eqb, not, ◌&&◌, ◌||◌, ◌⊎◌, List, [], ◌∷◌, ◌++◌, Option, Some, None, refl, sym, ap, subst, ◌∙◌, inl, inr}
+use Rattle.std.specs.Prelude.{IsTrue, IsFalse, is_some, codes, encode_utf8_all}
+use Rattle.std.proofs.lemmas.Bool.{eqb-true}
+use Rattle.xmp_values.specs.Characters.{is_char}
+use Rattle.xmp_values.specs.declared.rules.Rule.{Rule}
+use Rattle.xmp_values.specs.declared.rules.Rule.TheVariants.{BadChar, Doctype, BadReference, BadTag, BadComment, BadInstruction, BadCdata}
+use Rattle.xml_grammar.specs.declared.tokens.Mode.{Mode}
+use Rattle.xml_grammar.specs.declared.tokens.Mode.TheVariants as modes
+use Rattle.xml_grammar.specs.declared.tokens.Token.{Token}
+use Rattle.xml_grammar.specs.declared.tokens.Token.TheVariants as tokens
+use Rattle.xml_grammar.specs.Spelling.{BeginsWith}
+use Rattle.xml_grammar.specs.Pieces.{HasPiece}
+use Rattle.xml_grammar.specs.Nesting.{Nest, mode_of}
+use Rattle.xml_grammar.specs.Documents.{NoPiece, IsRule}
+use Rattle.xml_grammar.proofs.Splits.{both}
+use Rattle.xml_tokenizer.specs.Classes.{is_plain}
+use Rattle.xml_tokenizer.specs.Faults.{markup_rule, rule_at}
+use Rattle.xml_tokenizer.specs.References.{reference_at}
+use Rattle.xml_tokenizer.specs.Runs.{taken, past, after, begins, starts_with}
+use Rattle.xml_tokenizer.specs.Steps.{◌>>=◌}
+use Rattle.xml_tokenizer.specs.Tokens.{is_start, is_inside, markup_at, bracket_at, run_at, token_at}
+use Rattle.xml_tokenizer.specs.Values.{past_feed}
+use Rattle.xml_tokenizer.proofs.TokenLaws.{inside_is, PlainChar, char_plain, token_none}
+use Rattle.xml_tokenizer.proofs.Words.{after_takes, after_again}
+
+begun : (word cs : List ℕ) → begins word cs ≡ true → BeginsWith word cs
+begun word cs h = from (after word cs) refl h
+  where
+    from : (o : Option (List ℕ)) → after word cs ≡ o → is_some o ≡ true → BeginsWith word cs
+    from (Some rest) e k = (rest, after_takes word cs rest e)
+    from None e k = absurd cc
+
+not_begun : (word cs : List ℕ) → begins word cs ≡ false → BeginsWith word cs → ⊥
+not_begun word cs h (rest, e) =
+    let k : begins word cs ≡ true = ap (begins word) e ∙ ap is_some (after_again word rest) in
+    cc
+
+behind_less : (word cs : List ℕ) → BeginsWith word cs → BeginsWith (60 ∷ word) (60 ∷ cs)
+behind_less word cs (rest, e) = (rest, ap (λ (t : List ℕ). 60 ∷ t) e)
+
+less_behind : (word cs : List ℕ) → BeginsWith (60 ∷ word) (60 ∷ cs) → BeginsWith word cs
+less_behind word cs (rest, e) = (rest, cc)
+
+markup_fails : (s : Nest) (cs : List ℕ) → (HasPiece (mode_of s) (60 ∷ cs) → ⊥) → IsRule s (60 ∷ cs) (markup_rule cs)
+unfolding markup_rule
+markup_fails s cs none = by_doctype (begins (codes "!DOCTYPE") cs) refl
+  where
+    by_cdata : (a b c d : Bool) → begins (codes "!DOCTYPE") cs ≡ false → begins (codes "!--") cs ≡ false → begins (codes "?") cs ≡ false → begins (codes "![CDATA[") cs ≡ d → IsRule s (60 ∷ cs) (cond d BadCdata BadTag)
+    by_cdata a b c true x y z h = (behind_less (codes "![CDATA[") cs (begun (codes "![CDATA[") cs h), none)
+    by_cdata a b c false x y z h = (((cs, refl), none), (λ k. not_begun (codes "!DOCTYPE") cs x (less_behind (codes "!DOCTYPE") cs k)), (λ k. not_begun (codes "!--") cs y (less_behind (codes "!--") cs k)), (λ k. not_begun (codes "?") cs z (less_behind (codes "?") cs k)), (λ k. not_begun (codes "![CDATA[") cs h (less_behind (codes "![CDATA[") cs k)))
+
+    by_question : (c : Bool) → begins (codes "!DOCTYPE") cs ≡ false → begins (codes "!--") cs ≡ false → begins (codes "?") cs ≡ c → IsRule s (60 ∷ cs) (cond c BadInstruction (cond (begins (codes "![CDATA[") cs) BadCdata BadTag))
+    by_question true x y h = (behind_less (codes "?") cs (begun (codes "?") cs h), none)
+    by_question false x y h = by_cdata false false false (begins (codes "![CDATA[") cs) x y h refl
+
+    by_comment : (b : Bool) → begins (codes "!DOCTYPE") cs ≡ false → begins (codes "!--") cs ≡ b → IsRule s (60 ∷ cs) (cond b BadComment (cond (begins (codes "?") cs) BadInstruction (cond (begins (codes "![CDATA[") cs) BadCdata BadTag)))
+    by_comment true x h = (behind_less (codes "!--") cs (begun (codes "!--") cs h), none)
+    by_comment false x h = by_question (begins (codes "?") cs) x h refl
+
+    by_doctype : (a : Bool) → begins (codes "!DOCTYPE") cs ≡ a → IsRule s (60 ∷ cs) (cond a Doctype (cond (begins (codes "!--") cs) BadComment (cond (begins (codes "?") cs) BadInstruction (cond (begins (codes "![CDATA[") cs) BadCdata BadTag))))
+    by_doctype true h = behind_less (codes "!DOCTYPE") cs (begun (codes "!DOCTYPE") cs h)
+    by_doctype false h = by_comment (begins (codes "!--") cs) h refl
+
+bracket_fails : (s : Nest) (cs : List ℕ) → bracket_at (is_inside (mode_of s)) (93 ∷ cs) ≡ None → IsRule s (93 ∷ cs) BadChar
+unfolding bracket_at
+bracket_fails s cs e = by_test (is_inside (mode_of s) && begins (codes "]>") cs) refl e
+  where
+    end_of : BeginsWith (codes "]>") cs → BeginsWith (codes "]]>") (93 ∷ cs)
+    end_of (rest, h) = (rest, ap (λ (t : List ℕ). 93 ∷ t) h)
+
+    by_test : (v : Bool) → (is_inside (mode_of s) && begins (codes "]>") cs) ≡ v → cond {A = Option (Token × List ℕ)} v None (Some (tokens.Run (codes "]"), cs)) ≡ None → IsRule s (93 ∷ cs) BadChar
+    by_test true h k =
+        let both_ = both (is_inside (mode_of s)) (begins (codes "]>") cs) h in
+        inr (inside_is (mode_of s) both_.0, end_of (begun (codes "]>") cs both_.1))
+    by_test false h k = absurd cc
+
+run_fails : (s : Nest) (c : ℕ) (cs : List ℕ) → eqb c 60 ≡ false → eqb c 38 ≡ false → eqb c 13 ≡ false → run_at (is_inside (mode_of s)) (c ∷ cs) ≡ None → IsRule s (c ∷ cs) BadChar
+unfolding run_at
+run_fails s c cs less amp return e = by_plain (is_plain c) refl e
+  where
+    by_char : (v : Bool) → is_char c ≡ v → is_plain c ≡ false → bracket_at (is_inside (mode_of s)) (c ∷ cs) ≡ None → (w : Bool) → eqb c 93 ≡ w → IsRule s (c ∷ cs) BadChar
+    by_char false h plain k w b = inl (c, cs, h, refl)
+    by_char true h plain k true b = subst (λ (d : ℕ). IsRule s (d ∷ cs) BadChar) (sym (eqb-true c 93 b)) (bracket_fails s cs (subst (λ (d : ℕ). bracket_at (is_inside (mode_of s)) (d ∷ cs) ≡ None) (eqb-true c 93 b) k))
+    by_char true h plain k false b = let bad = char_plain c (record { char = h; less = less; amp = amp; return = return; bracket = b }) in absurd cc
+
+    by_plain : (v : Bool) → is_plain c ≡ v → cond {A = Option (Token × List ℕ)} v (Some (tokens.Run (encode_utf8_all (taken is_plain (c ∷ cs))), past is_plain (c ∷ cs))) (bracket_at (is_inside (mode_of s)) (c ∷ cs)) ≡ None → IsRule s (c ∷ cs) BadChar
+    by_plain true h k = absurd cc
+    by_plain false h k = by_char (is_char c) refl h k (eqb c 93) refl
+
+-- the rule for a text at whose front nothing is read
+pub fails_by : (s : Nest) (cs : List ℕ) → cs ≢ [] → token_at (mode_of s) cs ≡ None → IsRule s cs (rule_at cs)
+unfolding token_at rule_at
+fails_by s [] some e = absurd (some refl)
+fails_by s (c ∷ cs) some e = by_less (eqb c 60) refl e (token_none (mode_of s) (c ∷ cs) e)
+  where
+    at_char : (n : ℕ) (r : Rule) → eqb c n ≡ true → IsRule s (n ∷ cs) r → IsRule s (c ∷ cs) r
+    at_char n r h t = subst (λ (d : ℕ). IsRule s (d ∷ cs) r) (sym (eqb-true c n h)) t
+
+    by_return : (v : Bool) → eqb c 60 ≡ false → eqb c 38 ≡ false → eqb c 13 ≡ v → cond {A = Option (Token × List ℕ)} v (Some (tokens.LineEnd, past_feed cs)) (run_at (is_inside (mode_of s)) (c ∷ cs)) ≡ None → IsRule s (c ∷ cs) BadChar
+    by_return true less amp h k = absurd cc
+    by_return false less amp h k = run_fails s c cs less amp h k
+
+    by_amp : (v : Bool) → eqb c 60 ≡ false → eqb c 38 ≡ v → cond v (reference_at cs >>= λ y. Some (tokens.Reference y.0, y.1)) (cond (eqb c 13) (Some (tokens.LineEnd, past_feed cs)) (run_at (is_inside (mode_of s)) (c ∷ cs))) ≡ None
+        → (HasPiece (mode_of s) (c ∷ cs) → ⊥) → IsRule s (c ∷ cs) (cond v BadReference BadChar)
+    by_amp true less h k none = ((cs, ap (λ (d : ℕ). d ∷ cs) (eqb-true c 38 h)), none)
+    by_amp false less h k none = by_return (eqb c 13) less h refl k
+
+    by_less : (v : Bool) → eqb c 60 ≡ v → cond v (markup_at (is_start (mode_of s)) cs) (cond (eqb c 38) (reference_at cs >>= λ y. Some (tokens.Reference y.0, y.1)) (cond (eqb c 13) (Some (tokens.LineEnd, past_feed cs)) (run_at (is_inside (mode_of s)) (c ∷ cs)))) ≡ None
+        → (HasPiece (mode_of s) (c ∷ cs) → ⊥) → IsRule s (c ∷ cs) (cond v (markup_rule cs) (cond (eqb c 38) BadReference BadChar))
+    by_less true h k none =
+        let same : c ≡ 60 = eqb-true c 60 h in
+        at_char 60 (markup_rule cs) h (markup_fails s cs (subst (λ (d : ℕ). HasPiece (mode_of s) (d ∷ cs) → ⊥) same none))
+    by_less false h k none = by_amp (eqb c 38) h refl k none
