@@ -278,12 +278,15 @@ declaration_takes cs x e =
 pub declaration_again : (encoding : Option (List ℕ)) (text : List ℕ) → HeadText encoding text → (front : List ℕ) × (text ≡ codes "<?xml" ++ front) × ((rest : List ℕ) → declaration_at (front ++ rest) ≡ Some (encoding, rest))
 unfolding declaration_at is_blank
 declaration_again encoding text (version, named, alone, gap, hv, hn, ha, hg, at) =
-    let front : List ℕ = version ++ named ++ alone ++ gap ++ codes "?>" in
-    (front, at, λ rest.
-        let tail : List ℕ = gap ++ (codes "?>" ++ rest) in
-        let split : front ++ rest ≡ version ++ (named ++ (alone ++ tail)) = simp append_assoc in
-        let v = version_again version (named ++ (alone ++ tail)) hv in
-        let n = optional_again encoding named alone gap rest hn ha hg in
-        let s = standalone_again alone gap rest ha hg in
-        let k = run_again is_blank gap (codes "?>" ++ rest) hg refl in
-        ap declaration_at split ∙ rw (v, n, s, k.1) refl)
+    let front : List ℕ = version ++ named ++ alone ++ gap ++ codes "?>" in (
+      front,
+      at,
+      λ rest.
+          let tail : List ℕ = gap ++ (codes "?>" ++ rest) in
+          let split : front ++ rest ≡ version ++ (named ++ (alone ++ tail)) = simp append_assoc in
+          let v = version_again version (named ++ (alone ++ tail)) hv in
+          let n = optional_again encoding named alone gap rest hn ha hg in
+          let s = standalone_again alone gap rest ha hg in
+          let k = run_again is_blank gap (codes "?>" ++ rest) hg refl in
+          ap declaration_at split ∙ rw (v, n, s, k.1) refl,
+    )

@@ -169,14 +169,20 @@ no_x (d ∷ ds) rest some all = by_test (eqb d 0x78) refl
 pub reference_again : (v : ℕ) (text : List ℕ) → SpellsReference v text → (inner : List ℕ) × (text ≡ 0x26 ∷ inner) × ((rest : List ℕ) → reference_at (inner ++ rest) ≡ Some (v, rest))
 unfolding reference_at
 reference_again v text (inl (e, is, at)) = (entity_name e ++ codes ";", at, λ rest. entity_again e rest ∙ ap (λ (c : ℕ). Some (c, rest)) (sym is))
-reference_again v text (inr (inl (digits, some, all, is, char, at))) =
-    (codes "#" ++ digits ++ codes ";", at, λ rest.
-        let n = number_again 10 steps_ten refl digits rest some all (subst (λ (c : ℕ). IsTrue (is_char c)) is char) in
-        let x = no_x digits (0x3B ∷ rest) some all in
-        let k : digits ++ codes ";" ++ rest ≡ digits ++ (0x3B ∷ rest) = append_assoc digits (codes ";") rest in
-        ap (λ (t : List ℕ). numeric_at t (after (codes "x") t)) k ∙ rw x (n ∙ ap (λ (c : ℕ). Some (c, rest)) (sym is)))
-reference_again v text (inr (inr (digits, some, all, is, char, at))) =
-    (codes "#x" ++ digits ++ codes ";", at, λ rest.
-        let n = number_again 16 steps_sixteen refl digits rest some all (subst (λ (c : ℕ). IsTrue (is_char c)) is char) in
-        let k : digits ++ codes ";" ++ rest ≡ digits ++ (0x3B ∷ rest) = append_assoc digits (codes ";") rest in
-        ap (number_at 16) k ∙ n ∙ ap (λ (c : ℕ). Some (c, rest)) (sym is))
+reference_again v text (inr (inl (digits, some, all, is, char, at))) = (
+  codes "#" ++ digits ++ codes ";",
+  at,
+  λ rest.
+      let n = number_again 10 steps_ten refl digits rest some all (subst (λ (c : ℕ). IsTrue (is_char c)) is char) in
+      let x = no_x digits (0x3B ∷ rest) some all in
+      let k : digits ++ codes ";" ++ rest ≡ digits ++ (0x3B ∷ rest) = append_assoc digits (codes ";") rest in
+      ap (λ (t : List ℕ). numeric_at t (after (codes "x") t)) k ∙ rw x (n ∙ ap (λ (c : ℕ). Some (c, rest)) (sym is)),
+)
+reference_again v text (inr (inr (digits, some, all, is, char, at))) = (
+  codes "#x" ++ digits ++ codes ";",
+  at,
+  λ rest.
+      let n = number_again 16 steps_sixteen refl digits rest some all (subst (λ (c : ℕ). IsTrue (is_char c)) is char) in
+      let k : digits ++ codes ";" ++ rest ≡ digits ++ (0x3B ∷ rest) = append_assoc digits (codes ";") rest in
+      ap (number_at 16) k ∙ n ∙ ap (λ (c : ℕ). Some (c, rest)) (sym is),
+)

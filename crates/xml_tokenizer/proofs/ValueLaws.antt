@@ -365,9 +365,13 @@ prepends_return : (quote : ℕ) (cs : List ℕ) → IsQuote quote → Prepends q
 prepends_return quote cs q = by_feed cs
   where
     alone : (ds : List ℕ) → past_feed ds ≡ ds → Prepends quote (13 ∷ ds) (32, ds)
-    alone ds e = (13 ∷ [], refl, λ inside vs rest at h.
-        let is : past_feed inside ≡ inside = feed_inside quote inside rest q (ap past_feed (sym at) ∙ e ∙ at) in
-        (10 ∷ [], line_ends inside, space_is quote 10 q (inr refl), h, ap (λ (t : List ℕ). 10 ∷ t) (ends_behind inside is)))
+    alone ds e = (
+      13 ∷ [],
+      refl,
+      λ inside vs rest at h.
+          let is : past_feed inside ≡ inside = feed_inside quote inside rest q (ap past_feed (sym at) ∙ e ∙ at) in
+          (10 ∷ [], line_ends inside, space_is quote 10 q (inr refl), h, ap (λ (t : List ℕ). 10 ∷ t) (ends_behind inside is)),
+    )
 
     by_test : (c : ℕ) (ds : List ℕ) (v : Bool) → eqb c 10 ≡ v → Prepends quote (13 ∷ c ∷ ds) (32, cond v ds (c ∷ ds))
     by_test c ds true f =
