@@ -1,5 +1,5 @@
 -- Words by their count.
-use Rattle.std.proofs.Common.{◌≡◌, ℕ, List, [], ◌∷◌, length, slice_get, refl, sym, ap, ◌∙◌, Some, arith}
+use Rattle.std.proofs.Common.{◌≡◌, ℕ, List, [], ◌∷◌, length, slice_get, Some, arith}
 use Rattle.xmp_cli.specs.Commands.{command, with_three, with_four}
 
 pub four_words : (ws : List (List ℕ)) (v a b c : List ℕ) → length ws ≡ 4 → slice_get ws 0 ≡ Some v → slice_get ws 1 ≡ Some a → slice_get ws 2 ≡ Some b → slice_get ws 3 ≡ Some c

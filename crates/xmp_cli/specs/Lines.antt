@@ -1,5 +1,5 @@
 -- The line on `err` for each status.
-use Rattle.std.specs.Prelude.{ℕ, List, [], ◌∷◌, ◌++◌, codes, decimal}
+use Rattle.std.specs.Prelude.{ℕ, List, [], ◌++◌, codes, decimal}
 use Rattle.xmp_values.specs.declared.faults.Fault.{Fault}
 use Rattle.xmp_values.specs.declared.faults.Part.{Part}
 use Rattle.xmp_values.specs.declared.faults.Part.TheVariants.{File, Main, Extended, Script, Words, Exif, Iptc}

@@ -1,4 +1,4 @@
-use Rattle.std.proofs.Common.{◌≡◌, ◌+◌, ◌≤◌, length, subst, ap, List, ℕ, Ok, arith}
+use Rattle.std.proofs.Common.{length, subst, ap, List, ℕ, Ok, arith}
 use Rattle.std.proofs.lemmas.List.{length-drop, take_rest}
 use Rattle.xmp_base.specs.Device.{SendCall}
 use Rattle.xmp_cli.proofs.Sends.{sent_more}
