@@ -1,0 +1,8 @@
+-- The open elements of a builder.
+use Rattle.std.proofs.Common.{◌≡◌, ℕ, ◌+◌, eqb, List, [], ◌∷◌, length, refl, sym, arith}
+use Rattle.std.proofs.lemmas.Bool.{ne_eqb}
+use Rattle.xml_documents.specs.Building.{is_nil}
+
+pub nil_is : {A : Type 0} (xs : List A) → is_nil xs ≡ eqb (length xs) 0
+nil_is [] = refl
+nil_is (x ∷ xs) = sym (ne_eqb _ _ (λ e. omega arith))

@@ -1,0 +1,5 @@
+pub mod Bindings
+pub mod Bounds
+pub mod Kept
+pub mod Building
+pub mod Document
