@@ -9,6 +9,8 @@ mod descriptions;
 mod meanings;
 mod plain;
 mod stops;
+#[cfg(test)]
+mod tests;
 
 pub use meanings::{Meaning, Places};
 pub use plain::tree_of;

@@ -11,6 +11,8 @@ mod elements;
 mod lines;
 mod reading;
 mod stops;
+#[cfg(test)]
+mod tests;
 
 pub use documents::Doc;
 pub use reading::read;
