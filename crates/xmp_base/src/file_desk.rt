@@ -1,6 +1,6 @@
 // Real files by the names of a command line.
-ghost use Rattle.std.specs.Prelude.{◌≡◌, ◌<◌, ◌≤◌, ◌+◌, ◌-◌, ◌^◌, min, List, ℕ, length, IfOk};
-ghost use Rattle.xmp_base.specs.FileDesk.{file_state, known_lens, name_and_len};
+ghost use Rattle.std.specs.Prelude.{◌≡◌, ◌<◌, ◌≤◌, ◌+◌, ◌-◌, ◌^◌, min, List, ℕ, [], ◌∷◌, ◌++◌, map, length, None, IfOk, OnOk};
+ghost use Rattle.xmp_base.specs.FileDesk.{IsFresh, file_state, known_lens, name_and_len};
 ghost use Rattle.std.specs.String.{string_bytes};
 ghost use Rattle.std.specs.List.{position};
 ghost use Rattle.std.specs.Str.{bytes_eq};
@@ -39,21 +39,17 @@ pub struct FileDesk<'r, R: Files> {
 }
 
 impl<'r, R: Files> FileDesk<'r, R> {
-    pub fn new(rt: &'r R, alloc: Global, words: &Words) -> Result<FileDesk<'r, R>, Memory> {
+    /// A desk for the files that these words name. No file is looked at yet.
+    ///
+    /// # Errors
+    /// `Memory`.
+    pub fn new(rt: &'r R, alloc: Global, words: &Words) -> Result<FileDesk<'r, R>, Memory>
+        ensures { IfOk result (λ desk. IsFresh desk.names.items desk.faults desk.misses words.now) }
+    {
         let mut names = Vec::new(alloc);
         for i in 0..words.len() {
             if let Some(word) = words.get(i) {
-                let Ok(name) = String::from_str(alloc, word) else {
-                    return Err(Memory);
-                };
-                let known = Known {
-                    name,
-                    len: None,
-                    handle: None,
-                };
-                if names.push(known).is_err() {
-                    return Err(Memory);
-                }
+                push_name(&mut names, alloc, word)?;
             }
         }
         Ok(FileDesk {
@@ -63,6 +59,18 @@ impl<'r, R: Files> FileDesk<'r, R> {
             misses: 0,
         })
     }
+}
+
+fn push_name<F: Drop>(names: &mut Vec<Known<F>>, alloc: Global, word: &str) -> Result<(), Memory>
+    ensures { OnOk result (map name_and_len names.new.items ≡ map name_and_len names.old.items ++ (word.now, None) ∷ []) }
+{
+    let name = String::from_str(alloc, word)?;
+    names.push(Known {
+        name,
+        len: None,
+        handle: None,
+    })?;
+    Ok(())
 }
 
 impl<F: Read + Write + Seek + Drop> Handle<F> {
