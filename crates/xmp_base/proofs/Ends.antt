@@ -6,7 +6,7 @@ use Rattle.std.specs.FinMap.{get, insert}
 use Rattle.std.proofs.Math.Seq.{take-add}
 use Rattle.std.proofs.lemmas.List.{append-nil, drop-drop, drop_all, take_all, take-take, take-append-drop, length-append, length-take-le, length-drop}
 use Rattle.xmp_base.specs.declared.device.Failed.{Failed}
-use Rattle.xmp_base.specs.Device.{DeskState, Files, Lens, ReadCall, WriteCall, bytes_of, len_of, is_known, put_at, Torn, NotFewer, SameFiles, Rose}
+use Rattle.xmp_base.specs.Device.{DeskState, Files, Lens, ReadCall, WriteCall, CreateCall, bytes_of, len_of, is_known, put_at, Torn, NotFewer, SameFiles, Rose}
 use Rattle.xmp_base.specs.Windows.{MovesInside, Grown, PartOf, Grows, AppendCall, CopyCall}
 use Rattle.xmp_base.proofs.Names.{get-insert_same, get-insert_other, insert_held, insert_twice}
 use Rattle.xmp_base.proofs.Calls.{counts_trans, rose_after}
@@ -353,3 +353,17 @@ module _ (s t : DeskState) (from : List ℕ) (at len : ℕ) (to : List ℕ) (mos
             (λ files mid told now grown. range_rest (done + n) len (drop at (bytes_of files from)) within
             ∙ ap (λ (l : List ℕ). l ++ drop (done + n) (take len (drop at (bytes_of files from)))) (next files mid now grown));
       }
+
+-- a file that was just created is known, empty, and changes no other length
+module _ (s t : DeskState) (name : List ℕ) (call : CreateCall s t name (Ok tt)) where
+  created : get t.lens name ≡ Some 0
+  created = ap (λ (m : Lens). get m name) call.lens ∙ get-insert_same s.lens name 0
+
+  pub created_known : IsTrue (is_known t name)
+  created_known = ap is_some created
+
+  pub created_len : len_of t name ≡ 0
+  created_len = ap (λ (o : Option ℕ). unwrap_or o 0) created
+
+  pub created_other : (other : List ℕ) → other ≢ name → get t.lens other ≡ get s.lens other
+  created_other other apart = ap (λ (m : Lens). get m other) call.lens ∙ get-insert_other s.lens name 0 other apart
