@@ -1,3 +1,4 @@
+//! Copies that own all their texts.
 ghost use Rattle.std.specs.Prelude.{◌≡◌, IfOk};
 
 use crate::nested::{Items, Member, Members, Shape, Value};
@@ -19,6 +20,7 @@ pub fn copy_name<'q>(alloc: Global, name: &Name<'_>) -> Result<Name<'q>, Memory>
     Ok(Name { space, local })
 }
 
+/// An equal value that owns its texts.
 #[cycle(copy)]
 pub fn copy_value<'q>(alloc: Global, value: &Value<'_>) -> Result<Value<'q>, Memory>
     ensures { IfOk result (λ c. c ≡ value.now) }
@@ -49,6 +51,7 @@ fn copy_member<'q>(alloc: Global, member: &Member<'_>) -> Result<Member<'q>, Mem
     Ok(Member { name, value })
 }
 
+/// An equal list whose members own their texts.
 #[cycle(copy)]
 pub fn copy_members<'q>(alloc: Global, members: &[Member<'_>]) -> Result<Members<'q>, Memory>
     ensures { IfOk result (λ c. c ≡ members.now) }

@@ -1,3 +1,4 @@
+//! Equality, by what the texts hold and not by who owns them. It takes no memory.
 ghost use Rattle.std.specs.Prelude.{◌≡◌, ◌↔◌, IsTrue};
 
 use crate::nested::{Kind, Member, Shape, Value};
@@ -21,6 +22,7 @@ fn equal_kinds(a: Kind, b: Kind) -> bool
     a == b
 }
 
+/// Whether two values are equal, qualifiers and order included.
 #[cycle(equal)]
 #[tactic(auto, using(crate::proofs::Values::same_value))]
 pub fn equal_values(a: &Value<'_>, b: &Value<'_>) -> bool
@@ -51,6 +53,7 @@ fn equal_members_at(a: &Member<'_>, b: &Member<'_>) -> bool
     equal_names(&a.name, &b.name) && equal_values(&a.value, &b.value)
 }
 
+/// Whether two lists have equal names and values in the same order.
 #[cycle(equal)]
 pub fn equal_members(a: &[Member<'_>], b: &[Member<'_>]) -> bool
     ensures { IsTrue result ↔ (a.now ≡ b.now) }

@@ -2,10 +2,13 @@ ghost use Rattle.xmp_tree.specs.declared.nested.Member.{out-Member};
 
 use xmp_values::{Name, Named, Sequence, Text};
 
+/// Properties, fields or qualifiers, in their order.
 pub type Members<'p> = Sequence<Member<'p>>;
 
+/// The items of an array, in their order.
 pub type Items<'p> = Sequence<Value<'p>>;
 
+/// Which array it is (ISO 16684-1, 6.3.4): unordered, ordered, or of alternatives.
 #[derive(Clone, Copy, Debug, PartialEq, Eq)]
 pub enum Kind {
     Bag,
@@ -13,6 +16,7 @@ pub enum Kind {
     Alt,
 }
 
+/// A value without its qualifiers (ISO 16684-1, 6.3): a text, a URI, fields, or items.
 #[cycle(tree)]
 #[derive(Drop)]
 pub enum Shape<'p> {
@@ -22,6 +26,7 @@ pub enum Shape<'p> {
     Array(Kind, Items<'p>),
 }
 
+/// A value with its qualifiers (ISO 16684-1, 6.4).
 #[cycle(tree)]
 #[derive(Drop)]
 pub struct Value<'p> {
@@ -29,6 +34,7 @@ pub struct Value<'p> {
     pub quals: Members<'p>,
 }
 
+/// A property, a field or a qualifier: a name and its value.
 #[cycle(tree)]
 #[derive(Drop)]
 pub struct Member<'p> {

@@ -1,5 +1,6 @@
-ghost use Rattle.std.specs.Prelude.{◌≡◌, [], ◌↔◌, IsTrue, IfOk};
+ghost use Rattle.std.specs.Prelude.{◌≡◌, [], ◌↔◌, IsTrue, IfOk, MatchOption};
 
+use crate::checks::is_well_formed;
 use crate::copies::{copy_members, copy_text};
 use crate::equals::{equal_members, equal_texts};
 use crate::nested::Members;
@@ -7,7 +8,8 @@ use std::alloc::Global;
 use std::marker::Model;
 use xmp_values::{Bytes, Memory, Sequence, Text};
 
-/// A tree of properties, which is well-formed wherever it is.
+/// A tree of properties (ISO 16684-1, clause 6): an about, and a list of names with values. It is
+/// well-formed wherever it is, so that the literal asks for a proof; `checked` tests in its place.
 #[derive(Drop)]
 pub struct Tree<'p> {
     pub about: Text<'p>,
@@ -28,7 +30,25 @@ impl<'p> Model for Tree<'p> {
     ghost invariant = { λ t. Wf record { about = t.about; props = t.props } };
 }
 
-/// The empty tree.
+impl<'p> Tree<'p> {
+    ghost use Rattle.xmp_tree.specs.Wf.{Wf};
+
+    /// The tree of an about and properties, if it is well-formed.
+    pub fn checked(
+        alloc: Global,
+        about: Text<'p>,
+        props: Members<'p>,
+    ) -> Result<Option<Tree<'p>>, Memory>
+        ensures { IfOk result (λ tree. MatchOption tree (Wf record { about = about.entry; props = props.entry } → ⊥) (λ t. t ≡ record { about = about.entry; props = props.entry })) }
+    {
+        if is_well_formed(alloc, &about, props.as_slice())? {
+            return Ok(Some(Tree { about, props }));
+        }
+        Ok(None)
+    }
+}
+
+/// The empty tree: no about, no property. It takes no memory.
 pub fn empty<'p>(alloc: Global) -> Tree<'p>
     ensures { result ≡ record { about = []; props = [] } }
 {
@@ -38,12 +58,15 @@ pub fn empty<'p>(alloc: Global) -> Tree<'p>
     }
 }
 
+/// Whether two trees have equal abouts and equal properties in the same order, their values and
+/// qualifiers included. It takes no memory.
 pub fn equal(a: &Tree<'_>, b: &Tree<'_>) -> bool
     ensures { IsTrue result ↔ (a.now ≡ b.now) }
 {
     equal_texts(&a.about, &b.about) && equal_members(a.props.as_slice(), b.props.as_slice())
 }
 
+/// An equal tree that owns all its texts.
 pub fn copy<'q>(alloc: Global, tree: &Tree<'_>) -> Result<Tree<'q>, Memory>
     ensures { IfOk result (λ c. c ≡ tree.now) }
 {
