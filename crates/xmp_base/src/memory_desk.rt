@@ -1,5 +1,5 @@
 // Files in memory, on a desk that fails where it is told to.
-ghost use Rattle.std.specs.Prelude.{◌≡◌, ◌<◌, ◌≤◌, ◌-◌, ◌+◌, ◌/◌, ◌^◌, ◌++◌, ◌∷◌, [], ℕ, List, IsTrue, IsSome, IsErr, Ok, Err, OnOk, OnErr, min, map, take, drop, length, cond, slice_get};
+ghost use Rattle.std.specs.Prelude.{◌≡◌, ◌<◌, ◌≤◌, ◌-◌, ◌+◌, ◌^◌, ◌++◌, ◌∷◌, [], IsTrue, IsSome, IsErr, Err, OnOk, OnErr, min, map, take, drop, length, slice_get};
 ghost use Rattle.std.specs.List.{position};
 ghost use Rattle.std.specs.Str.{bytes_eq};
 ghost use Rattle.std.specs.String.{string_bytes};
@@ -33,14 +33,14 @@ pub struct MemoryDesk {
 }
 
 #[derive(Drop)]
-pub struct Entry {
+struct Entry {
     name: String,
     bytes: Vec<u8>,
 }
 
 /// What one read or write moved.
 #[derive(Drop)]
-pub struct Move {
+struct Move {
     name: String,
     place: u64,
     count: u64,

@@ -1,5 +1,5 @@
 // One long file of which a few pieces are stated, for limits that no file in memory reaches.
-ghost use Rattle.std.specs.Prelude.{◌≡◌, ◌<◌, ◌≤◌, ◌-◌, ◌+◌, ◌^◌, ◌++◌, ◌∷◌, [], ℕ, min, length, cond, IsTrue, IsErr, Ok, Err, OnOk, OnErr, IfOk, slice_index, EachIndex};
+ghost use Rattle.std.specs.Prelude.{◌≡◌, ◌<◌, ◌≤◌, ◌-◌, ◌+◌, ◌^◌, ◌++◌, ◌∷◌, [], ℕ, min, drop, length, cond, IsTrue, IsErr, Ok, Err, OnOk, OnErr, IfOk, slice_index};
 ghost use Rattle.std.specs.Str.{bytes_eq};
 ghost use Rattle.xmp_base.specs.Device.{SizeCall, ReadCall, CreateCall, WriteCall, is_known, len_of};
 ghost use Rattle.xmp_base.specs.Memory.{up};
@@ -25,7 +25,7 @@ pub struct SparseDesk {
 }
 
 #[derive(Drop)]
-pub struct Piece {
+struct Piece {
     place: u64,
     bytes: Vec<u8>,
 }
@@ -127,6 +127,7 @@ impl Desk for SparseDesk {
         ensures call { ReadCall (sparse_state self.old) (sparse_state self.new) name.now at to.new result }
         ensures count { result ≡ Ok (min (self.old.size - at) (length to.old)) }
         ensures bytes { (k : ℕ) → k < min (self.old.size - at) (length to.old) → slice_index to.new k ≡ byte_at self.old (at + k) }
+        ensures rest { drop (min (self.old.size - at) (length to.old)) to.new ≡ drop (min (self.old.size - at) (length to.old)) to.old }
         ensures after { self.new ≡ self.old }
     {
         let left = self.size.saturating_sub(at);

@@ -1,5 +1,5 @@
 // A whole file.
-ghost use Rattle.std.specs.Prelude.{◌≡◌, ◌<◌, length, IsTrue};
+ghost use Rattle.std.specs.Prelude.{◌≡◌, length, IsTrue};
 ghost use Rattle.xmp_base.specs.Device.{is_known, len_of};
 ghost use Rattle.xmp_base.specs.Whole.{FillCall, ReadAll};
 
