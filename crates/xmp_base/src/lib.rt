@@ -9,6 +9,8 @@
 mod device;
 mod file_desk;
 mod file_span;
+#[cfg(test)]
+mod file_tests;
 mod memory_desk;
 mod memory_sink;
 mod sparse_desk;

@@ -1,0 +1,109 @@
+// Real files and a writer, which no proof reaches, and a copy on a desk that fails at each call in turn.
+ghost use Rattle.std.specs.Prelude.{◌≢◌, ◌<◌, length};
+
+use crate::{
+    Bytes, Desk, Failed, FileDesk, FileSpan, Memory, MemoryDesk, Sink, SizeStop, Span, StdSink,
+    Words, copy_range, window,
+};
+use std::alloc::Global;
+use std::fs;
+
+/// Puts a whole file into one that it creates, in pieces of the buffer's length.
+fn copy_file<D: Desk>(desk: &mut D, from: &str, to: &str, buffer: &mut [u8]) -> Result<(), Failed>
+    requires apart { from.now ≢ to.now }
+    requires some { 0 < length buffer.old }
+{
+    let Ok(len) = desk.size(from) else {
+        return Err(Failed);
+    };
+    desk.create(to)?;
+    copy_range(desk, from, 0, len, to, 0, buffer)
+}
+
+/// The bytes of a file from a place on, where it has so many.
+fn bytes_at<D: Desk>(
+    alloc: Global,
+    desk: &mut D,
+    name: &str,
+    at: u64,
+    len: usize,
+) -> Option<Bytes> {
+    match desk.size(name) {
+        Ok(size) if at <= size && len as u64 <= size - at => {
+            window(alloc, desk, name, at, len).ok()
+        }
+        _ => None,
+    }
+}
+
+/// A desk on which `from` was copied to `to` until the call of this number failed.
+fn copy_failing(alloc: Global, call: u64) -> Result<MemoryDesk, Memory> {
+    let mut desk = MemoryDesk::new(alloc);
+    desk.add("from", b"0123456789")?;
+    desk.fail(call)?;
+    let mut buffer = [0; 4];
+    let _ = copy_file(&mut desk, "from", "to", &mut buffer);
+    Ok(desk)
+}
+
+/// The calls are `size`, `create`, and a read and a write for each of three pieces. A write that is
+/// planned to fail puts half of its piece first, rounded down.
+#[test]
+fn copies_until_a_call_fails(rt: HostRuntime) {
+    for (call, left) in [
+        (2, None),
+        (3, Some("")),
+        (4, Some("01")),
+        (5, Some("0123")),
+        (6, Some("012345")),
+        (7, Some("01234567")),
+        (8, Some("012345678")),
+        (9, Some("0123456789")),
+    ] {
+        match copy_failing(rt.alloc(), call) {
+            Ok(desk) => {
+                assert!(rt; desk.bytes_of("to") == left.map(|text| text.as_bytes()));
+                assert!(rt; desk.bytes_of("from") == Some("0123456789".as_bytes()));
+            }
+            Err(Memory) => panic!(rt; "memory"),
+        }
+    }
+}
+
+#[test]
+fn reaches_real_files(rt: HostRuntime) {
+    assert!(rt; fs::write(&rt, "in.bin", "12345").is_ok());
+    let mut words = Words::new(rt.alloc());
+    for word in ["in.bin", "out.bin", "none.bin"] {
+        assert!(rt; words.push(word).is_ok());
+    }
+    let Ok(mut desk) = FileDesk::new(&rt, rt.alloc(), &words) else {
+        panic!(rt; "memory");
+    };
+    assert!(rt; copy_file(&mut desk, "in.bin", "out.bin", &mut [0; 2]).is_ok());
+    for (name, size) in [
+        ("in.bin", Ok(5)),
+        ("out.bin", Ok(5)),
+        ("none.bin", Err(SizeStop::Absent)),
+        ("other.bin", Err(SizeStop::Failed)),
+    ] {
+        assert_eq!(rt; desk.size(name), size);
+        let bytes = bytes_at(rt.alloc(), &mut desk, name, 0, 5);
+        assert_eq!(rt;
+            bytes.is_some_and(|bytes| bytes.as_slice() == "12345".as_bytes()),
+            size.is_ok()
+        );
+    }
+    assert!(rt; fs::remove_file(&rt, "in.bin").is_ok() && fs::remove_file(&rt, "out.bin").is_ok());
+}
+
+#[test]
+fn hands_a_line_to_a_writer(rt: HostRuntime) {
+    let mut bytes = Vec::new(rt.alloc());
+    let mut sink = StdSink::new(&mut bytes);
+    assert_eq!(rt; sink.write(b"line\n"), Ok(5));
+    assert!(rt; bytes.as_slice() == "line\n".as_bytes());
+    let span = FileSpan { start: 1, end: 3 };
+    assert_eq!(rt; span.within(3), Some(Span { start: 1, end: 3 }));
+    assert_eq!(rt; span.within(2), None);
+}
