@@ -23,7 +23,7 @@ struct Handle<F: Drop> {
 
 /// A name, the length that was told of it, and its handle once it was opened.
 #[derive(Drop)]
-pub struct Known<F: Drop> {
+struct Known<F: Drop> {
     name: String,
     len: Option<u64>,
     handle: Option<Handle<F>>,
