@@ -63,6 +63,7 @@ get_large s t o file path size h = record {
   sink = omega arith;
   plan = refl;
   reads = h.calls.reads;
+  unwritten = λ e. h.calls.same;
   usage = (λ e. cc, λ e. cc);
   told = λ files e a.
       let same = get_answer_too_large (get files file) path size (h.told files e (λ x. cc) (λ x. cc)) in
