@@ -1,2 +1,4 @@
 pub mod Nests
 pub mod Reached
+pub mod Starts
+pub mod Walks

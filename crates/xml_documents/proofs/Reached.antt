@@ -11,14 +11,14 @@ use Rattle.xml_documents.specs.Building.{nest_of}
 
 -- ---- what a builder holds, before what follows
 
-abbrev inside : Frame → List Event → List Event
+abbrev pub inside : Frame → List Event → List Event
 inside f es = joined (map events f.children) ++ es
 
-abbrev frames : List Frame → Frame → List Event → List Event
+abbrev pub frames : List Frame → Frame → List Event → List Event
 frames [] f es = es
 frames (o ∷ os) f es = frames os o (Opens f.at f.name f.attributes ∷ inside f es)
 
-abbrev before : Option Element → List Event → List Event
+abbrev pub before : Option Element → List Event → List Event
 before None es = es
 before (Some e) es = events (child.Element e) ++ es
 
