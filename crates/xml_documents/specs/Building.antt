@@ -55,6 +55,9 @@ abbrev pub texted : Frame → List ℕ → Frame
 texted f [] = f
 texted f (b ∷ bs) = with_child f (child.Text (b ∷ bs))
 
+abbrev pub flushed : Builder → Builder
+flushed s = record { first = s.first; outer = s.outer; top = texted s.top s.text; text = []; root = s.root; hints = s.hints }
+
 -- a piece without meaning is read
 abbrev pub passed : Builder → Builder
 passed s = record { first = false; outer = s.outer; top = s.top; text = s.text; root = s.root; hints = s.hints }
