@@ -13,6 +13,8 @@ mod laws;
 mod list;
 mod marker;
 mod reading;
+#[cfg(test)]
+mod tests;
 
 pub use cutting::JpegStop;
 pub use from_desk::CutStop;
