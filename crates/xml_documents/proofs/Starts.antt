@@ -1,9 +1,9 @@
 -- Where reading starts and stands, and where a run stops to be white space.
-use Rattle.std.proofs.Common.{◌≡◌, ℕ, ◌+◌, ◌-◌, ◌≤◌, ◌<◌, ◌/◌, ◌%◌, Bool, true, false, cond, eqb, ltb, List, [], ◌∷◌, ◌++◌, length, refl, sym, ap, subst, ◌∙◌, length-append, append-nil, inl, inr, arith}
+use Rattle.std.proofs.Common.{◌≡◌, ℕ, ◌+◌, ◌-◌, ◌≤◌, ◌<◌, ◌/◌, Bool, true, false, cond, eqb, ltb, List, [], ◌∷◌, ◌++◌, length, refl, sym, ap, subst, ◌∙◌, length-append, append-nil, inl, inr, arith}
 use Rattle.std.specs.Prelude.{chars, encode_utf8, encode_utf8_all, IsTrue}
 use Rattle.std.specs.Str.{IsUtf8}
 use Rattle.std.specs.List.{list_all, prefix_len}
-use Rattle.std.proofs.lemmas.Bool.{eqb-true, ltb-true}
+use Rattle.std.proofs.lemmas.Bool.{eqb-true}
 use Rattle.std.proofs.lemmas.Str.{encodes-chars, encode_ascii, length-le-encodes}
 use lib.Utf8.{encode, next}
 use Rattle.xmp_values.specs.Characters.{is_blank}

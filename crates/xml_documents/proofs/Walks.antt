@@ -1,25 +1,29 @@
 -- What a piece, and a run of them, does to a builder.
-use Rattle.std.proofs.Common.{◌≡◌, ℕ, Bool, true, false, cond, not, ◌&&◌, List, [], ◌∷◌, ◌++◌, map, Option, Some, None, refl, sym, ap, subst, ◌∙◌, append_assoc, append-nil}
-use Rattle.std.specs.Prelude.{encode_utf8}
+use Rattle.std.proofs.Common.{◌≡◌, ℕ, ◌+◌, ◌-◌, length, Bool, true, false, cond, not, ◌&&◌, List, [], ◌∷◌, ◌++◌, map, Option, Some, None, refl, sym, ap, subst, ◌∙◌, append_assoc, append-nil}
+use Rattle.std.specs.Prelude.{chars, encode_utf8, encode_utf8_all}
 use Rattle.std.specs.List.{filter_map}
+use Rattle.std.specs.Str.{IsUtf8}
 use Rattle.xmp_values.specs.declared.hints.Hint.{Hint}
 use Rattle.xml_grammar.specs.declared.elements.Child.{Child}
 use Rattle.xml_grammar.specs.declared.elements.Child.TheVariants as child
 use Rattle.xml_grammar.specs.declared.elements.Element.{Element}
 use Rattle.xml_grammar.specs.declared.tags.QName.{QName}
 use Rattle.xml_grammar.specs.declared.tags.Tag.{Tag}
-use Rattle.xml_grammar.specs.Pieces.{Piece, Declaration, Instruction, Comment, Cdata, Start, End, Reference, LineEnd, Character}
+use Rattle.xml_grammar.specs.Pieces.{Piece, Declaration, Instruction, Comment, Cdata, Start, End, Reference, LineEnd, Character, Stands, StandsRow}
 use Rattle.xml_grammar.specs.Scopes.{Binding, bindings_of, element_name, expanded_attributes}
 use Rattle.xml_grammar.specs.Nesting as nesting
-use Rattle.xml_grammar.specs.Nesting.{Level, Nest, bound_in, bound_at, enter, is_outside, is_allowed_outside, broken}
-use Rattle.xml_grammar.specs.Trees.{Event, Opens, Words, Closes, joined, events, put, put_inside, closing, piece_events, hint_of, piece_hints}
+use Rattle.xml_grammar.specs.Nesting.{Level, Nest, bound_in, bound_at, enter, is_outside, is_allowed_outside, broken, mode_of}
+use Rattle.xml_grammar.specs.Trees.{Event, Opens, Words, Closes, joined, events, put, put_inside, closing, piece_events, hint_of, piece_hints, Placed, events_of, all_hints}
+use Rattle.xml_grammar.specs.Documents.{width, mark_width, behind_mark, Reads, Begins, nest_after}
 use Rattle.xml_grammar.proofs.TreeEvents.{element_is, text_is}
-use Rattle.xml_grammar.proofs.Rows.{put_inside-append}
-use Rattle.xml_grammar.proofs.Unbroken.{IsUnbroken, unbroken}
+use Rattle.xml_grammar.proofs.Rows.{put_inside-append, reads_append, reads_one, nest-append, placed_run, behind_run, run_nest, IsRunFree, run_reads, run_events}
+use Rattle.xml_grammar.proofs.Scoping.{all_hints-append}
+use Rattle.xml_grammar.proofs.Unbroken.{unbroken}
 use Rattle.xml_documents.specs.declared.builder.Frame.{Frame}
 use Rattle.xml_documents.specs.declared.builder.Builder.{Builder}
 use Rattle.xml_documents.specs.Building.{is_nil, bound_of, levels_of, is_rooted, nest_of, element, with_child, texted, passed, with_text, frame, opened, popped, closed, closed_if, after}
-use Rattle.xml_documents.proofs.Reached.{inside, frames, before, shown, IsQuiet}
+use Rattle.xml_documents.proofs.Reached.{inside, frames, before, shown, IsQuiet, Reached}
+use Rattle.xml_documents.proofs.Starts.{place_from}
 
 -- ---- the builder's nest is the nest of the pieces
 
@@ -253,3 +257,68 @@ quiet_at s at (End name) q good = closed_quiet s.outer (texted s.top s.text) s.r
 quiet_at s at (Reference c) q good = text_quiet s (encode_utf8 c) q
 quiet_at s at LineEnd q good = text_quiet s (0xA ∷ []) q
 quiet_at s at (Character c) q good = text_quiet s (encode_utf8 c) q
+
+-- ---- one piece further
+
+pub piece_reached : (text cs front back : List ℕ) (s : Builder) (p : Piece) → IsUtf8 text → Reached text s cs → cs ≡ front ++ back → Stands (mode_of (nest_of s)) p front back → broken (nest_of s) p ≡ None
+    → Reached text (after s (length text - width cs) p) back
+piece_reached text cs front back s p u r is stands good =
+    let at : ℕ = length text - width cs in
+    let next : Builder = after s at p in
+    let one : List Placed = (at, p) ∷ [] in
+    record {
+      pieces = r.pieces ++ one;
+      read = reads_one nesting.start (mark_width (chars text)) at r.pieces p (behind_mark (chars text)) front back
+          (subst (λ (z : List ℕ). Reads nesting.start (mark_width (chars text)) r.pieces (behind_mark (chars text)) z) is r.read)
+          (subst (λ (z : Nest). Stands (mode_of z) p front back) r.nest stands)
+          (subst (λ (z : Nest). broken z p ≡ None) r.nest good)
+          (ap (λ (z : List ℕ). at + width z) (sym is) ∙ place_from text cs r.pieces u r.read);
+      nest = after_nest s at p ∙ ap (λ (z : Nest). enter z p) r.nest ∙ sym (nest-append nesting.start r.pieces one);
+      hinted = after_hints s at p ∙ ap (λ (hs : List Hint). hs ++ piece_hints p) r.hinted ∙ ap (λ (hs : List Hint). all_hints r.pieces ++ hs) (sym (append-nil (piece_hints p))) ∙ sym (all_hints-append r.pieces one);
+      quiet = quiet_at s at p r.quiet good;
+      shows = λ more.
+          ap (events_of nesting.start) (append_assoc r.pieces one more)
+          ∙ r.shows ((at, p) ∷ more)
+          ∙ shown_at s at p (events_of (enter (nest_of s) p) more) r.quiet good
+          ∙ ap (λ (z : Nest). shown next (events_of z more)) (sym (after_nest s at p));
+    }
+
+-- ---- a run further
+
+run_hints : (at : ℕ) (cs : List ℕ) → all_hints (placed_run at cs) ≡ []
+run_hints at [] = refl
+run_hints at (c ∷ cs) = run_hints (at + width (c ∷ [])) cs
+
+-- a run that breaks no rule goes on from where pieces end
+pub run_begins : (text cs left run : List ℕ) (s : Builder) → IsUtf8 text → (r : Reached text s cs) → StandsRow (mode_of (nest_of s)) (map Character run) cs left → IsRunFree (nest_of s) run
+    → Begins text (r.pieces ++ placed_run (length text - width cs) run) left
+run_begins text cs left run s u r row free =
+    let at : ℕ = length text - width cs in
+    reads_append nesting.start (mark_width (chars text)) at r.pieces (placed_run at run) (behind_mark (chars text)) cs left r.read
+    (run_reads (nest_after nesting.start r.pieces) at run cs left (subst (λ (z : Nest). StandsRow (mode_of z) (map Character run) cs left) r.nest row) (subst (λ (z : Nest). IsRunFree z run) r.nest free))
+    (place_from text cs r.pieces u r.read)
+
+-- the nest behind it
+pub run_nested : (text cs run : List ℕ) (s : Builder) (r : Reached text s cs) (at : ℕ) → behind_run (nest_of s) run ≡ nest_after nesting.start (r.pieces ++ placed_run at run)
+run_nested text cs run s r at =
+    ap (λ (z : Nest). behind_run z run) r.nest ∙ sym (run_nest (nest_after nesting.start r.pieces) at run) ∙ sym (nest-append nesting.start r.pieces (placed_run at run))
+
+pub run_reached : (text cs left : List ℕ) (s : Builder) (c : ℕ) (run : List ℕ) → IsUtf8 text → Reached text s cs → StandsRow (mode_of (nest_of s)) (map Character (c ∷ run)) cs left → IsRunFree (nest_of s) (c ∷ run)
+    → Reached text (with_text s (encode_utf8_all (c ∷ run))) left
+run_reached text cs left s c run u r row free =
+    let at : ℕ = length text - width cs in
+    let t : List ℕ = encode_utf8_all (c ∷ run) in
+    let placed : List Placed = placed_run at (c ∷ run) in
+    record {
+      pieces = r.pieces ++ placed;
+      read = run_begins text cs left (c ∷ run) s u r row free;
+      nest = text_nest s t ∙ run_nested text cs (c ∷ run) s r at;
+      hinted = text_hints s t ∙ r.hinted ∙ sym (append-nil (all_hints r.pieces)) ∙ ap (λ (hs : List Hint). all_hints r.pieces ++ hs) (sym (run_hints at (c ∷ run))) ∙ sym (all_hints-append r.pieces placed);
+      quiet = text_quiet s t r.quiet;
+      shows = λ more.
+          ap (events_of nesting.start) (append_assoc r.pieces placed more)
+          ∙ r.shows (placed ++ more)
+          ∙ ap (shown s) (run_events (nest_of s) at (c ∷ run) more)
+          ∙ text_shown s t (events_of (behind_run (nest_of s) (c ∷ run)) more)
+          ∙ ap (λ (z : Nest). shown (with_text s t) (events_of z more)) (sym (text_nest s t));
+    }
