@@ -1,16 +1,16 @@
 -- A desk over real files that was just made.
-use Rattle.std.proofs.Common.{◌≡◌, ℕ, ◌+◌, ◌<◌, ◌≤◌, List, [], ◌∷◌, ◌++◌, map, length, get_or, take, cond, Bool, true, false, refl, sym, ap, ◌∙◌, Some, None, arith}
+use Rattle.std.proofs.Common.{◌≡◌, ℕ, ◌+◌, ◌<◌, ◌≤◌, List, [], ◌∷◌, ◌++◌, map, length, get_or, take, cond, true, false, refl, sym, ap, ◌∙◌, Some, None}
 use Rattle.std.specs.declared.option.Option.{Option}
 use Rattle.std.specs.List.{slice_get}
-use Rattle.std.specs.FinMap.{get, empty, get-empty, same_map}
+use Rattle.std.specs.FinMap.{empty, get-empty, same_map}
 use Rattle.std.specs.Ordering.{eq_by_cmp}
 use Rattle.std.specs.Cmp.Lexicographic.{nat_list_cmp_total}
 use Rattle.std.proofs.lemmas.List.{map-append, take_more, take_all}
 use Rattle.std.proofs.lemmas.Option.{get_or_from_slice_get, slice_get_within, slice_get-get_or}
 use Rattle.xmp_base.specs.declared.file_desk.Known.{Known}
-use Rattle.xmp_base.specs.Device.{Lens, name_cmp}
+use Rattle.xmp_base.specs.Device.{name_cmp}
 use Rattle.xmp_base.specs.Held.{held_of}
-use Rattle.xmp_base.specs.FileDesk.{name_and_len, known_lens, IsFresh}
+use Rattle.xmp_base.specs.FileDesk.{name_and_len, IsFresh}
 use Rattle.xmp_base.proofs.Names.{names_apart}
 use Rattle.xmp_base.proofs.Held.{found, get-held}
 

@@ -29,7 +29,12 @@ struct Known<F: Drop> {
     handle: Option<Handle<F>>,
 }
 
-/// The files that a list of words names. It tells no bytes.
+/// Real files, under the names that a list of words gives. It tells lengths and counts, and no bytes.
+///
+/// A file is opened at its first read, write or creation, and stays open until a call on it fails.
+/// Counted as failures are each error of the toolchain's calls, want of memory included, but for a
+/// file that `size` doesn't find; a name that is none of the words; a file that ends before its
+/// known length; and a write that takes nothing of a piece that isn't empty.
 #[derive(Drop)]
 pub struct FileDesk<'r, R: Files> {
     rt: &'r R,
@@ -111,7 +116,7 @@ impl<F: Read + Write + Seek + Drop> Handle<F> {
 }
 
 impl<F: Read + Write + Seek + Drop> Known<F> {
-    /// Reads once. The handle is kept where that succeeds.
+    /// Reads once. The handle is kept where that succeeds, and closed where it fails.
     fn read_at<R: Files<File = F>>(&mut self, rt: &R, at: u64, to: &mut [u8]) -> io::Result<usize>
         ensures count { IfOk result (λ n. (0 < n) × (n ≤ length to.new)) }
         ensures same { name_and_len self.new ≡ name_and_len self.old }
@@ -129,7 +134,8 @@ impl<F: Read + Write + Seek + Drop> Known<F> {
         Ok(count)
     }
 
-    /// Writes once. The handle is kept where that succeeds.
+    /// Writes once, through a handle that may write, and else through a new one. The handle is kept
+    /// where that succeeds, and closed where it fails.
     fn write_at<R: Files<File = F>>(&mut self, rt: &R, at: u64, from: &[u8]) -> io::Result<usize>
         ensures count { IfOk result (λ n. (0 < n) × (n ≤ length from.now)) }
         ensures same { name_and_len self.new ≡ name_and_len self.old }

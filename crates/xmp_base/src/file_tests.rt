@@ -3,7 +3,7 @@ ghost use Rattle.std.specs.Prelude.{◌≢◌, ◌<◌, length};
 
 use crate::{
     Bytes, Desk, Failed, FileDesk, FileSpan, Memory, MemoryDesk, Sink, SizeStop, Span, StdSink,
-    Words, copy_range, window,
+    Words, append, copy_range, window,
 };
 use std::alloc::Global;
 use std::fs;
@@ -33,6 +33,14 @@ fn bytes_at<D: Desk>(
             window(alloc, desk, name, at, len).ok()
         }
         _ => None,
+    }
+}
+
+/// Puts a piece at the end of a file that isn't long.
+fn grow<D: Desk>(desk: &mut D, name: &str, piece: &[u8]) -> Result<(), Failed> {
+    match desk.size(name) {
+        Ok(len) if len < 1000 => append(desk, name, len, piece),
+        _ => Err(Failed),
     }
 }
 
@@ -73,6 +81,7 @@ fn copies_until_a_call_fails(rt: HostRuntime) {
 #[test]
 fn reaches_real_files(rt: HostRuntime) {
     assert!(rt; fs::write(&rt, "in.bin", "12345").is_ok());
+    assert!(rt; fs::write(&rt, "out.bin", "an older text").is_ok());
     let mut words = Words::new(rt.alloc());
     for word in ["in.bin", "out.bin", "none.bin"] {
         assert!(rt; words.push(word).is_ok());
@@ -94,6 +103,10 @@ fn reaches_real_files(rt: HostRuntime) {
             size.is_ok()
         );
     }
+    // a file that was opened for reading is written too
+    assert!(rt; grow(&mut desk, "in.bin", b"6").is_ok());
+    let last = bytes_at(rt.alloc(), &mut desk, "in.bin", 3, 3);
+    assert!(rt; last.is_some_and(|bytes| bytes.as_slice() == "456".as_bytes()));
     assert!(rt; fs::remove_file(&rt, "in.bin").is_ok() && fs::remove_file(&rt, "out.bin").is_ok());
 }
 

@@ -7,13 +7,17 @@ use crate::{Desk, Failed};
 use std::alloc::Global;
 use xmp_values::Bytes;
 
+/// Why a part of a file wasn't read.
 #[derive(Clone, Copy, Debug, PartialEq, Eq)]
 pub enum WindowStop {
     Device,
     Memory,
 }
 
-/// The `len` bytes of a file from `at` on.
+/// The `len` bytes of a file from `at` on, which it has.
+///
+/// # Errors
+/// `Device` after a failure that the desk counted, and `Memory` before the desk is used.
 pub fn window<D: Desk>(
     alloc: Global,
     desk: &mut D,
@@ -23,6 +27,7 @@ pub fn window<D: Desk>(
 ) -> Result<Bytes, WindowStop>
     requires known { IsTrue (is_known (D.state desk.old) name.now) }
     requires within { at + len ≤ len_of (D.state desk.old) name.now }
+    // `size` tells a length as a u64, so each range of a file has this.
     requires fits { at + len < 2 ^ 64 }
     ensures call { WindowCall (D.state desk.old) (D.state desk.new) name.now at len result }
 {
@@ -50,7 +55,11 @@ fn fill_from<D: Desk>(desk: &mut D, name: &str, at: u64, to: &mut [u8]) -> Resul
 }
 
 /// Puts `len` bytes of the file `from`, from `at` on, at the end of the file `to`, in pieces of at
-/// most the buffer's length. `end` is the length of `to`.
+/// most the buffer's length. `end` is the length of `to`. It takes no memory.
+///
+/// # Errors
+/// `Failed` after a failure that the desk counted. `to` has then grown by a prefix of the bytes and
+/// by what a failed write of one piece left.
 pub fn copy_range<D: Desk>(
     desk: &mut D,
     from: &str,
@@ -80,7 +89,10 @@ pub fn copy_range<D: Desk>(
     Ok(())
 }
 
-/// Puts a piece at the end of a file.
+/// Puts a piece at the end of the file `to`, whose length is `end`.
+///
+/// # Errors
+/// `Failed` after a failure that the desk counted. The file has then grown by a part of the piece.
 pub fn append<D: Desk>(desk: &mut D, to: &str, end: u64, piece: &[u8]) -> Result<(), Failed>
     requires target { IsTrue (is_known (D.state desk.old) to.now) }
     requires at_end { end ≡ len_of (D.state desk.old) to.now }

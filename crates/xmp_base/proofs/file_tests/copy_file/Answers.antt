@@ -1,4 +1,4 @@
-use Rattle.std.proofs.Common.{arith, ap, sym, ◌∙◌, ℕ, is_some, Some}
+use Rattle.std.proofs.Common.{arith, ap, sym, ◌∙◌, ℕ, is_some}
 use Rattle.std.specs.declared.option.Option.{Option}
 use Rattle.std.specs.Option.{unwrap_or}
 use Rattle.xmp_base.proofs.Calls.{now_known}

@@ -1,6 +1,5 @@
 use Rattle.std.proofs.Common.{◌∙◌, ◌++◌, ◌∷◌, [], List, ℕ, None, ap, sym, arith}
 use Rattle.std.specs.declared.option.Option.{Option}
-use Rattle.xmp_base.specs.FileDesk.{name_and_len}
 use Rattle.xmp_base.proofs.Fresh.{unknown_more, unknown_none, is_fresh}
 use Rattle.xmp_base.proofs.file_desk.FileDesk.new.Goals.{in-Some+in_ok-push_name, in_default}
 use Rattle.xmp_base.proofs.file_desk.FileDesk.new.Goals as goal
