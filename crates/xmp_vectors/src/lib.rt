@@ -1,0 +1,14 @@
+//! Worked examples: whole runs over devices in memory, with their answers.
+//!
+//! The files stand here as values, and the tests compare a run's status, text and line
+//! with what the public standard and the manual of `xmp` give for them. It stands on
+//! `xmp_cli` and `xmp_base`.
+#![tactic(auto)]
+
+mod files;
+#[cfg(test)]
+mod runs;
+#[cfg(test)]
+mod tests;
+
+pub use files::PHOTO;
