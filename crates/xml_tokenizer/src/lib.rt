@@ -23,3 +23,6 @@ pub use runs::{next_char, past_run, run, width_of};
 pub use stops::TokenStop;
 pub use texts::{behind_mark, text_of};
 pub use tokens::token_of;
+
+#[cfg(test)]
+mod tests;
