@@ -16,3 +16,4 @@ pub mod SectionLaws
 pub mod DeclarationLaws
 pub mod TokenLaws
 pub mod FaultLaws
+pub mod Sure

@@ -1,10 +1,12 @@
 -- Where a text is cut.
 use Rattle.std.proofs.Common.{◌≡◌, ℕ, ◌-◌, ◌+◌, ◌≤◌, Bool, true, false, cond, List, [], ◌∷◌, ◌++◌, length, take, refl, sym, ap, ◌∙◌, append_assoc, arith}
-use Rattle.std.specs.Prelude.{encode_utf8, encode_utf8_all}
+use Rattle.std.specs.List.{list_all}
+use Rattle.std.specs.Prelude.{IsTrue, encode_utf8, encode_utf8_all}
 use Rattle.std.specs.Str.{chars, IsUtf8, IsCharBoundary}
 use Rattle.std.proofs.lemmas.List.{length-append, append-nil, take_at}
 use Rattle.std.proofs.lemmas.Str.{encodes-append, chars-nil, IsCharBoundary-at_seam}
-use Rattle.xml_tokenizer.specs.Runs.{taken, past}
+use Rattle.xml_grammar.proofs.Splits.{both}
+use Rattle.xml_tokenizer.specs.Runs.{Passes, taken, past}
 
 -- A run goes on: what was passed, and what is left.
 pub record Went (p : ℕ → Bool) (text rest : List ℕ) : Type 0 where
@@ -31,6 +33,23 @@ went_more p text rest behind c w e h yes_ =
       parts = w.parts ∙ ap (λ (x : List ℕ). encode_utf8_all w.front ++ x) e ∙ joined;
       run = w.run ∙ ap (λ (x : List ℕ). w.front ++ x) t ∙ sym (append_assoc w.front (c ∷ []) (taken p (chars behind)));
       same = sym s ∙ w.same;
+    }
+
+taken_front : (p : ℕ → Bool) (front rest : List ℕ) → IsTrue (list_all p front) → (taken p (front ++ rest) ≡ front ++ taken p rest) × (past p (front ++ rest) ≡ past p rest)
+taken_front p [] rest h = (refl, refl)
+taken_front p (c ∷ front) rest h =
+    let k = both (p c) (list_all p front) h in
+    let ih = taken_front p front rest k.1 in
+    (rw (k.0) (ap (λ (x : List ℕ). c ∷ x) ih.0), rw (k.0) ih.1)
+
+pub went_pass : (p : ℕ → Bool) (text rest behind : List ℕ) → Went p text rest → Passes p rest behind → Went p text behind
+went_pass p text rest behind w (front, all, at, of) =
+    let k = taken_front p front (chars behind) all in
+    record {
+      front = w.front ++ front;
+      parts = w.parts ∙ ap (λ (x : List ℕ). encode_utf8_all w.front ++ x) at ∙ sym (append_assoc (encode_utf8_all w.front) (encode_utf8_all front) behind) ∙ ap (λ (x : List ℕ). x ++ behind) (sym (encodes-append w.front front));
+      run = w.run ∙ ap (λ (x : List ℕ). w.front ++ x) (ap (taken p) of ∙ k.0) ∙ sym (append_assoc w.front front (taken p (chars behind)));
+      same = sym k.1 ∙ ap (past p) (sym of) ∙ w.same;
     }
 
 pub went_stop : (p : ℕ → Bool) (text rest behind : List ℕ) (c : ℕ) → Went p text rest → chars rest ≡ c ∷ chars behind → p c ≡ false → IsRun p text rest

@@ -1,5 +1,5 @@
 -- Classes of characters, of which runs are made.
-use Rattle.std.specs.Prelude.{ℕ, Bool, not, ◌||◌, ◌&&◌, ◌==◌}
+use Rattle.std.specs.Prelude.{ℕ, Bool, true, false, nat_lt, if◌then◌else◌, not, ◌||◌, ◌&&◌, ◌==◌}
 use Rattle.xmp_values.specs.Characters.{is_blank, is_char, is_name_char}
 use Rattle.xml_grammar.specs.Spelling.{is_digit}
 use Rattle.xml_tokenizer.specs.declared.classes.Class.{Class}
@@ -24,3 +24,16 @@ has Decimal = is_digit 10
 has Plain = is_plain
 has (Value quote) = is_value quote
 has (Other stop) = is_other stop
+
+-- are all Chars from U+80 on of the class?
+abbrev pub is_wide : Class → Bool
+is_wide NameChar = false
+is_wide Blank = false
+is_wide Decimal = false
+is_wide Plain = true
+is_wide (Value quote) = nat_lt quote 128
+is_wide (Other stop) = nat_lt stop 128
+
+-- A byte that, wherever it stands in UTF-8, is of a character of the class. EF begins U+FFFE and U+FFFF, which are no Chars.
+unfoldable pub is_sure : Class → ℕ → Bool
+is_sure class b = if nat_lt b 128 then has class b else (is_wide class && not (b == 0xEF))

@@ -1,5 +1,6 @@
 -- Runs of characters, and given words.
-use Rattle.std.specs.Prelude.{ℕ, Bool, true, false, nat_lt, ◌&&◌, ◌==◌, List, [], ◌∷◌, ◌++◌, Option, None, Some, is_some, length, if◌then◌else◌, encode_utf8_all}
+use Rattle.std.specs.Prelude.{◌≡◌, IsTrue, chars, ℕ, Bool, true, false, nat_lt, ◌&&◌, ◌==◌, List, [], ◌∷◌, ◌++◌, Option, None, Some, is_some, length, if◌then◌else◌, encode_utf8_all}
+use Rattle.std.specs.List.{list_all}
 use Rattle.xmp_values.specs.Characters.{is_char}
 use Rattle.xml_tokenizer.specs.Steps.{◌>>=◌}
 
@@ -16,6 +17,10 @@ past p (c ∷ cs) = if p c then past p cs else c ∷ cs
 abbrev pub starts_with : (ℕ → Bool) → List ℕ → Bool
 starts_with p [] = false
 starts_with p (c ∷ cs) = p c
+
+-- a front of characters that pass was left behind
+abbrev pub Passes : (ℕ → Bool) → List ℕ → List ℕ → Type 0
+Passes p text rest = (front : List ℕ) × IsTrue (list_all p front) × (text ≡ encode_utf8_all front ++ rest) × (chars text ≡ front ++ chars rest)
 
 -- what follows a word, where the text begins with it
 abbrev pub after : List ℕ → List ℕ → Option (List ℕ)

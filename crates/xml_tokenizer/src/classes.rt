@@ -1,7 +1,7 @@
 //! Classes of characters.
 
 ghost use Rattle.std.specs.Prelude.{◌≡◌};
-ghost use Rattle.xml_tokenizer.specs.Classes.{has, is_plain, is_value, is_other};
+ghost use Rattle.xml_tokenizer.specs.Classes.{has, is_plain, is_value, is_other, is_sure, is_wide};
 
 use xmp_values::{is_blank, is_char, is_name_char};
 
@@ -50,5 +50,29 @@ pub fn has(class: Class, c: char) -> bool
         Class::Plain => is_plain(c),
         Class::Value(quote) => is_value(quote, c),
         Class::Other(stop) => is_other(stop, c),
+    }
+}
+
+/// Whether all Chars from U+0080 on are of the class.
+fn is_wide(class: Class) -> bool
+    ensures { result ≡ is_wide class }
+{
+    match class {
+        Class::NameChar | Class::Blank | Class::Decimal => false,
+        Class::Plain => true,
+        Class::Value(quote) => quote < '\u{80}',
+        Class::Other(stop) => stop < '\u{80}',
+    }
+}
+
+/// Whether a byte, wherever it stands in UTF-8, is of a character of the class.
+#[tactic(auto, unfolding(crate::specs::Classes::is_sure))]
+pub fn is_sure(class: Class, byte: u8) -> bool
+    ensures { result ≡ is_sure class byte }
+{
+    if byte < 128 {
+        has(class, byte as char)
+    } else {
+        is_wide(class) && byte != 0xEF
     }
 }

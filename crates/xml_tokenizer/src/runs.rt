@@ -1,13 +1,14 @@
 //! Runs of characters, and given words.
 
 ghost use Rattle.std.specs.Prelude.{◌≡◌, ◌<◌, ◌≤◌, [], ◌∷◌, ◌++◌, true, length, drop, Some, None, MatchOption, IfNone, IfSome, encode_utf8, encode_utf8_all};
+ghost use Rattle.std.specs.List.{prefix_len};
 ghost use Rattle.std.specs.Str.{chars};
 ghost use Rattle.xmp_values.specs.Characters.{is_char};
 ghost use Rattle.xml_tokenizer.specs.Classes as classes;
-ghost use Rattle.xml_tokenizer.specs.Runs.{taken, past, after, begins, starts_with, is_ascii, width, up_to};
+ghost use Rattle.xml_tokenizer.specs.Runs.{Passes, taken, past, after, begins, starts_with, is_ascii, width, up_to};
 ghost use Rattle.xml_tokenizer.specs.Steps.{Gives};
 
-use crate::classes::{Class, has};
+use crate::classes::{Class, has, is_sure};
 use crate::stops::Miss;
 
 /// The first character, and the text after it.
@@ -30,6 +31,25 @@ pub fn width_of(text: &str) -> usize
     text.len()
 }
 
+/// How many bytes at the front tell by themselves that their characters are of the class.
+fn sure_len(class: Class, bytes: &[u8]) -> usize
+    ensures run { result ≡ prefix_len (classes.is_sure class) bytes.now }
+    ensures within { result ≤ length bytes.now }
+{
+    bytes
+        .iter()
+        .take_while(|byte| is_sure(class, **byte))
+        .count()
+}
+
+/// The text after those bytes.
+fn past_sure(class: Class, text: &str) -> &str
+    ensures { Passes (classes.has class) text.now result.now }
+{
+    let (_, rest) = text.split_at(sure_len(class, text.as_bytes()));
+    rest
+}
+
 /// The text after the longest run.
 pub fn past_run(class: Class, text: &str) -> &str
     ensures parts { text.now ≡ encode_utf8_all (taken (classes.has class) (chars text.now)) ++ result.now }
@@ -37,15 +57,14 @@ pub fn past_run(class: Class, text: &str) -> &str
 {
     let mut rest = text;
     for _ in 0..text.len() {
-        match next_char(rest) {
-            Some((c, behind)) => {
-                if !has(class, c) {
-                    return rest;
-                }
-                rest = behind;
-            }
-            None => return rest,
+        let behind = past_sure(class, rest);
+        let Some((c, next)) = next_char(behind) else {
+            return behind;
+        };
+        if !has(class, c) {
+            return behind;
         }
+        rest = next;
     }
     rest
 }
