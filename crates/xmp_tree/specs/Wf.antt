@@ -1,6 +1,7 @@
 -- Well-formed property trees: the data model of XMP (ISO 16684-1, clause 6), less what RDF/XML
 -- can't write. A tree is an about and a list of properties. A value is a shape and a list of
 -- qualifiers. A property, a field and a qualifier is each a member, a name with its value.
+-- Eight rules make a tree well-formed. Each has its number where it is said.
 use Rattle.std.specs.Prelude.{ℕ, ◌+◌, ◌≤◌, ◌≡◌, ◌≢◌, max, List, [], All, AllPairs, codes}
 use Rattle.xmp_values.specs.declared.text.Name.{Name}
 use Rattle.xmp_values.specs.Characters.{IsCharText, IsName}
@@ -154,7 +155,8 @@ pub record AreWellFormedQualifiers (room : ℕ) (ms : List Member) : Type 0 wher
   pub within : AreWithin room ms
   pub quals : AreQualifiers ms
 
--- the name `xmpNote:HasExtendedXMP` of the note, which tells of a second packet (ISO 16684-3, JPEG)
+-- the name `xmpNote:HasExtendedXMP` of the note, which names the extended text of a JPEG file
+-- (XMP Specification, Part 3, Storage in Files, 1.1.3.1)
 unfoldable pub note_name : Name
 note_name = record { space = codes "http://ns.adobe.com/xmp/note/"; local = codes "HasExtendedXMP" }
 
