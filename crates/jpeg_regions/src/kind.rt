@@ -4,6 +4,8 @@ ghost use Rattle.std.specs.List.{list_all};
 ghost use Rattle.xmp_values.specs.Digits.{is_digit};
 ghost use Rattle.jpeg_regions.specs.Kinds.{kind_of, first_kind_of, is_portion, front_len};
 
+use xmp_values::is_hex_digit;
+
 /// The kinds of regions, by the marker and the beginning of the payload.
 #[derive(Clone, Copy, Debug, PartialEq, Eq)]
 pub enum RegionKind {
@@ -87,14 +89,5 @@ fn is_portion(payload: &[u8]) -> bool
 fn are_digits(bytes: &[u8]) -> bool
     ensures { result ≡ list_all is_digit bytes.now }
 {
-    bytes.iter().all(|byte| is_hex(*byte))
-}
-
-#[tactic(auto, unfolding(xmp_values::specs::Digits::is_digit))]
-fn is_hex(byte: u8) -> bool
-    ensures { result ≡ is_digit byte }
-{
-    (b'0' <= byte && byte <= b'9')
-        || (b'A' <= byte && byte <= b'F')
-        || (b'a' <= byte && byte <= b'f')
+    bytes.iter().all(|byte| is_hex_digit(*byte))
 }

@@ -4,7 +4,8 @@ use Rattle.std.specs.List.{list_any}
 use Rattle.std.specs.Str.{bytes_eq}
 use Rattle.xml_grammar.specs.declared.elements.Attribute.{Attribute}
 use Rattle.xml_grammar.specs.declared.elements.Element.{Element}
-use Rattle.rdf_forms.specs.Words.{same_name, rdf, xml_lang, is_container}
+use Rattle.xmp_tree.specs.Wf.{lang_name}
+use Rattle.rdf_forms.specs.Words.{same_name, rdf, is_container}
 use Rattle.rdf_forms.specs.Parts.{name_of, attributes_of, attribute_value, elements_of, has_blank_text}
 
 pub data Form : Type 0 where
@@ -30,7 +31,7 @@ is_resource (Some kind) = bytes_eq kind (codes "Resource")
 
 -- an attribute besides `xml:lang`
 abbrev pub has_other_attribute : Element → Bool
-has_other_attribute e = list_any (λ (a : Attribute). not (same_name a.name xml_lang)) (attributes_of e)
+has_other_attribute e = list_any (λ (a : Attribute). not (same_name a.name lang_name)) (attributes_of e)
 
 abbrev pub childless_form : Element → Form
 childless_form e = if has_blank_text e && has_other_attribute e then ByAttributes else ByText

@@ -10,7 +10,8 @@ use Rattle.xmp_tree.specs.Parts.{Parts}
 use Rattle.xmp_tree.specs.Wf as tree
 use Rattle.xml_grammar.specs.declared.elements.Attribute.{Attribute}
 use Rattle.xml_grammar.specs.declared.elements.Element.{Element}
-use Rattle.rdf_forms.specs.Words.{same_name, note_name, is_rdf}
+use Rattle.xmp_tree.specs.Wf.{note_name}
+use Rattle.rdf_forms.specs.Words.{same_name, is_rdf}
 use Rattle.rdf_forms.specs.Parts.{name_of, place_of, elements_of, own_attributes}
 use Rattle.rdf_forms.specs.Values.{attribute_member, element_member, value_within}
 use Rattle.rdf_forms.specs.Rules.{first_about}

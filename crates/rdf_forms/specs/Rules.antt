@@ -11,7 +11,8 @@ use Rattle.rdf_forms.specs.declared.roles.Role.{Role}
 use Rattle.rdf_forms.specs.declared.roles.Role.TheVariants as roles
 use Rattle.rdf_forms.specs.declared.roles.Holder.{Holder}
 use Rattle.rdf_forms.specs.declared.roles.Holder.TheVariants as holders
-use Rattle.rdf_forms.specs.Words.{same_name, rdf, xml_lang, is_rdf, is_meta, in_rdf, in_xml, in_none, is_own}
+use Rattle.xmp_tree.specs.Wf.{lang_name}
+use Rattle.rdf_forms.specs.Words.{same_name, rdf, is_rdf, is_meta, in_rdf, in_xml, in_none, is_own}
 use Rattle.rdf_forms.specs.Parts.{name_of, attributes_of, place_of, elements_of, elements_named, has_blank_text, has_attribute, attribute_value, own_attributes}
 use Rattle.rdf_forms.specs.Forms.{Form, ByMembers, ByContainer, ByNode, ByAttributes, form_of, parse_type, is_resource}
 use Rattle.rdf_forms.specs.Visits.{Visit, has_value_element, has_value_member, is_typed, visits}
@@ -86,7 +87,7 @@ no_namespace role e = is_bare_element role e || has_some_attribute (is_bare role
 
 -- an attribute in XML's namespace on a property or node, other than `xml:lang`
 abbrev pub is_xml : Role → Attribute → Bool
-is_xml role a = is_property_or_node role && in_xml a.name && not (same_name a.name xml_lang)
+is_xml role a = is_property_or_node role && in_xml a.name && not (same_name a.name lang_name)
 
 abbrev pub xml_name : Role → Element → Bool
 xml_name role e = (is_property_or_node role && in_xml (name_of e)) || has_some_attribute (is_xml role) e
@@ -143,7 +144,7 @@ is_form_attribute ByAttributes a = is_rdf (codes "value") a.name || is_rdf (code
 is_form_attribute form a = false
 
 abbrev pub is_property_attribute : Element → Attribute → Bool
-is_property_attribute e a = same_name a.name xml_lang || is_rdf (codes "parseType") a.name || is_form_attribute (form_of e) a
+is_property_attribute e a = same_name a.name lang_name || is_rdf (codes "parseType") a.name || is_form_attribute (form_of e) a
 
 -- is the attribute allowed in this role and form, or named by another rule: BadParseType names each `rdf:parseType` that isn't allowed
 abbrev pub is_role_attribute : Role → Element → Attribute → Bool
@@ -245,11 +246,11 @@ has_type_element n = list_any (λ c. is_rdf (codes "type") (name_of c)) (element
 
 -- a member `rdf:value`, as an element, with `xml:lang`
 abbrev pub has_lang_value : Element → Bool
-has_lang_value e = list_any (has_attribute xml_lang) (elements_named (rdf (codes "value")) e)
+has_lang_value e = list_any (has_attribute lang_name) (elements_named (rdf (codes "value")) e)
 
 abbrev pub repeats_member : Form → Element → Bool
-repeats_member ByMembers e = has_again (other_names (map name_of (elements_of e))) || (has_attribute xml_lang e && has_lang_value e)
-repeats_member (ByNode n) e = has_attribute xml_lang e && has_lang_value n
+repeats_member ByMembers e = has_again (other_names (map name_of (elements_of e))) || (has_attribute lang_name e && has_lang_value e)
+repeats_member (ByNode n) e = has_attribute lang_name e && has_lang_value n
 repeats_member form e = false
 
 abbrev pub twice : Role → Element → List Element → Bool
@@ -267,7 +268,7 @@ abbrev pub has_own_attribute : Element → Bool
 has_own_attribute e = has_some_attribute (λ a. is_own a.name) e
 
 abbrev pub too_deep : ℕ → Element → Bool
-too_deep depth e = nat_lt most_depth depth || (depth == most_depth && (has_attribute xml_lang e || has_own_attribute e))
+too_deep depth e = nat_lt most_depth depth || (depth == most_depth && (has_attribute lang_name e || has_own_attribute e))
 
 abbrev pub tree_deep : Role → ℕ → Element → Bool
 tree_deep (roles.Property holder) depth e = too_deep depth e

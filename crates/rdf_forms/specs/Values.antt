@@ -12,7 +12,8 @@ use Rattle.xmp_tree.specs.declared.nested.Kind.TheVariants as kinds
 use Rattle.xmp_tree.specs.Parts.{value, member}
 use Rattle.xmp_tree.specs.Wf.{value_of}
 use Rattle.xmp_tree.specs.Wf as tree
-use Rattle.rdf_forms.specs.Words.{rdf, xml_lang, is_rdf, is_own}
+use Rattle.xmp_tree.specs.Wf.{lang_name}
+use Rattle.rdf_forms.specs.Words.{rdf, is_rdf, is_own}
 use Rattle.rdf_forms.specs.Parts.{name_of, attributes_of, elements_of, own_text, own_attributes, attribute_value}
 use Rattle.rdf_forms.specs.Forms.{Form, ByMembers, ByContainer, ByNode, ByAttributes, ByText, NoForm, form_of}
 
@@ -25,7 +26,7 @@ abbrev pub attribute_member : Attribute → Member
 attribute_member a = member a.name (plain a.value)
 
 abbrev pub lang_member : List ℕ → Member
-lang_member tag = member xml_lang (plain tag)
+lang_member tag = member lang_name (plain tag)
 
 abbrev pub listed : Option Member → List Member
 listed None = []
@@ -33,7 +34,7 @@ listed (Some m) = m ∷ []
 
 -- the qualifier that `xml:lang` gives
 abbrev pub lang_of : Element → List Member
-lang_of e = listed (option_map lang_member (attribute_value xml_lang e))
+lang_of e = listed (option_map lang_member (attribute_value lang_name e))
 
 -- the qualifier that a node with a type of its own gives (typed nodes; RDF/XML Syntax, 2.13)
 abbrev pub type_of : Name → List Member

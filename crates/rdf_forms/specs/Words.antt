@@ -2,15 +2,7 @@
 use Rattle.std.specs.Prelude.{ℕ, Bool, not, ◌&&◌, ◌||◌, List, [], codes}
 use Rattle.std.specs.Str.{bytes_eq}
 use Rattle.xmp_values.specs.declared.text.Name.{Name}
-use Rattle.xmp_tree.specs.Wf.{rdf_space, xml_space}
-
--- the namespace of `x:xmpmeta` (ISO 16684-1, 7.3.3)
-unfoldable pub meta_space : List ℕ
-meta_space = codes "adobe:ns:meta/"
-
--- the namespace and the local name of the note that names an extended text (Adobe XMP Part 3, 1.1.3.1)
-unfoldable pub note_name : Name
-note_name = record { space = codes "http://ns.adobe.com/xmp/note/"; local = codes "HasExtendedXMP" }
+use Rattle.xmp_values.specs.Spaces.{xml_space, rdf_space, meta_space}
 
 abbrev pub same_name : Name → Name → Bool
 same_name m n = bytes_eq m.space n.space && bytes_eq m.local n.local
@@ -18,9 +10,6 @@ same_name m n = bytes_eq m.space n.space && bytes_eq m.local n.local
 -- the name of RDF's namespace with this local part
 abbrev pub rdf : List ℕ → Name
 rdf local = record { space = rdf_space; local = local }
-
-abbrev pub xml_lang : Name
-xml_lang = record { space = xml_space; local = codes "lang" }
 
 abbrev pub is_rdf : List ℕ → Name → Bool
 is_rdf local name = same_name name (rdf local)

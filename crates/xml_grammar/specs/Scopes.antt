@@ -3,14 +3,10 @@ use Rattle.std.specs.Prelude.{ℕ, Bool, true, false, not, ◌&&◌, ◌||◌, i
 use Rattle.std.specs.List.{filter, filter_map}
 use Rattle.std.specs.Str.{bytes_eq}
 use Rattle.xmp_values.specs.declared.text.Name.{Name}
-use Rattle.xmp_values.specs.Hints.{xmlns_space}
+unfoldable pub use Rattle.xmp_values.specs.Spaces.{xml_space, xmlns_space}
 use Rattle.xml_grammar.specs.declared.elements.Attribute.{Attribute}
 use Rattle.xml_grammar.specs.declared.tags.QName.{QName}
 use Rattle.xml_grammar.specs.declared.tags.RawAttribute.{RawAttribute}
-
--- the namespace of the prefix `xml` (section 3)
-unfoldable pub xml_space : List ℕ
-xml_space = codes "http://www.w3.org/XML/1998/namespace"
 
 -- a prefix, or none for the default namespace, and what is bound to it
 pub record Binding : Type 0 where

@@ -3,7 +3,7 @@
 //! A trait says by its `state` what a device holds, and each call has one record of
 //! clauses over that state. What is read is what the files hold, an answer of failure
 //! was counted, and every loop over a device takes at least a byte a turn.
-//! It stands on `xmp_values`, whose items it offers too.
+//! It stands on `xmp_values`, whose types it offers too.
 #![tactic(auto)]
 
 mod device;

@@ -11,7 +11,7 @@ use Rattle.xml_grammar.specs.declared.elements.Child.TheVariants as child
 use Rattle.xml_grammar.specs.declared.elements.Element.{Element, out-Element, out-roll-Element}
 use Rattle.xmp_tree.specs.Parts.{member, simple}
 use Rattle.xmp_xml.specs.Plain.{Property, line, head, meta_tag, rdf_tag}
-use Rattle.xmp_xml.specs.PlainDocument.{named, element, around, packet, rdf_space, x_space, about, description, property_element, property_children, line_break, content, dc_space, root_of}
+use Rattle.xmp_xml.specs.PlainDocument.{named, element, around, packet, rdf_space, meta_space, about, description, property_element, property_children, line_break, content, dc_space, root_of}
 use Rattle.xmp_rdf.specs.Plain.{property_member, places_from}
 use Rattle.xmp_rdf.specs.Children.{element_at, text_at, text_in, property_in, property_at, properties_in, place_at, places_in}
 
@@ -21,7 +21,7 @@ rdf_of d = element (length meta_tag) (named rdf_space (codes "RDF")) [] (around 
 pub children-packet : (root d : Element) → root ≡ packet d → (out-Element root).children ≡ around (rdf_of d)
 children-packet root d same =
     ap (λ r. (out-Element r).children) same
-    ∙ ap (λ e. e.children) (out-roll-Element record { at = 0; name = named x_space (codes "xmpmeta"); attributes = []; children = around (rdf_of d) })
+    ∙ ap (λ e. e.children) (out-roll-Element record { at = 0; name = named meta_space (codes "xmpmeta"); attributes = []; children = around (rdf_of d) })
 
 pub children-rdf : (e d : Element) → e ≡ rdf_of d → (out-Element e).children ≡ around d
 children-rdf e d same =

@@ -5,7 +5,7 @@
 use Rattle.std.specs.Prelude.{ℕ, ◌+◌, ◌≤◌, ◌≡◌, ◌≢◌, max, List, [], All, AllPairs, codes}
 use Rattle.xmp_values.specs.declared.text.Name.{Name}
 use Rattle.xmp_values.specs.Characters.{IsCharText, IsName}
-use Rattle.xmp_values.specs.Hints.{xmlns_space}
+unfoldable pub use Rattle.xmp_values.specs.Spaces.{xml_space, rdf_space, xmlns_space}
 use Rattle.xmp_tree.specs.declared.nested.Value.{Value, Value', out-Value, Row_of-Member, end_of-Member, more_of-Member, items-the_row-Member}
 use Rattle.xmp_tree.specs.declared.nested.Member.{Member, Member', out-Member}
 use Rattle.xmp_tree.specs.declared.nested.Shape.{Shape, Shape-F, out-Shape, Simple, Uri, Struct', Array', Row_of-Value, end_of-Value, more_of-Value}
@@ -28,13 +28,6 @@ NamesDiffer ms = AllPairs (λ m n. name_of m ≢ name_of n) ms
 pub record IsNamed (n : Name) : Type 0 where
   pub chars : IsCharText n.space
   pub local : IsName n.local
-
--- the namespace of RDF's syntax, and that of `xml:lang`
-unfoldable pub rdf_space : List ℕ
-rdf_space = codes "http://www.w3.org/1999/02/22-rdf-syntax-ns#"
-
-unfoldable pub xml_space : List ℕ
-xml_space = codes "http://www.w3.org/XML/1998/namespace"
 
 -- 3. A namespace isn't empty, and it is none of RDF's, XML's and that of `xmlns`, whose names
 -- have a meaning of their own in RDF/XML (6.2, 7.2).

@@ -8,7 +8,7 @@ use std::alloc::Global;
 use xmp_values::{Memory, Name, is_char_text, is_name, names_differ};
 
 /// Whether the namespace is that of RDF's syntax.
-#[tactic(auto, unfolding(crate::specs::Wf::rdf_space))]
+#[tactic(auto, unfolding(xmp_values::specs::Spaces::rdf_space))]
 pub fn is_rdf_space(space: &[u8]) -> bool
     ensures { IsTrue result ↔ (space.now ≡ rdf_space) }
 {
@@ -16,7 +16,7 @@ pub fn is_rdf_space(space: &[u8]) -> bool
 }
 
 /// Whether the namespace is that of `xml:lang`.
-#[tactic(auto, unfolding(crate::specs::Wf::xml_space))]
+#[tactic(auto, unfolding(xmp_values::specs::Spaces::xml_space))]
 pub fn is_xml_space(space: &[u8]) -> bool
     ensures { IsTrue result ↔ (space.now ≡ xml_space) }
 {
@@ -24,7 +24,7 @@ pub fn is_xml_space(space: &[u8]) -> bool
 }
 
 /// Whether the namespace is that of `xmlns`.
-#[tactic(auto, unfolding(xmp_values::specs::Hints::xmlns_space))]
+#[tactic(auto, unfolding(xmp_values::specs::Spaces::xmlns_space))]
 pub fn is_xmlns_space(space: &[u8]) -> bool
     ensures { IsTrue result ↔ (space.now ≡ xmlns_space) }
 {

@@ -1,11 +1,8 @@
 -- Hints: namespaces, each with the prefix under which a writer may declare it.
-use Rattle.std.specs.Prelude.{ℕ, ◌≢◌, List, [], All, AllPairs, codes}
+use Rattle.std.specs.Prelude.{◌≢◌, List, [], All, AllPairs}
 use Rattle.xmp_values.specs.declared.hints.Hint.{Hint}
 use Rattle.xmp_values.specs.Characters.{IsCharText, IsName}
-
--- the namespace of `xmlns`, which nothing may bind (Namespaces in XML 1.0, section 3)
-unfoldable pub xmlns_space : List ℕ
-xmlns_space = codes "http://www.w3.org/2000/xmlns/"
+unfoldable pub use Rattle.xmp_values.specs.Spaces.{xmlns_space}
 
 pub record IsValidHint (h : Hint) : Type 0 where
   pub spaced : h.space ≢ []

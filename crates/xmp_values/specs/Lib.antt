@@ -5,4 +5,5 @@ pub mod Kept
 pub mod Lending
 pub mod Names
 pub mod Rules
+pub mod Spaces
 pub mod formers

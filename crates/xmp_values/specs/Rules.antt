@@ -3,7 +3,7 @@ use Rattle.std.specs.Prelude.{ℕ, List, codes}
 use Rattle.xmp_values.specs.declared.rules.Rule.{Rule}
 use Rattle.xmp_values.specs.declared.rules.Rule.TheVariants.{NotKnown, FileLimit, NoFile, NotBuilt, BadMarker, BadLength, Truncated, NoTail, TwoPackets, Gap, XmpLimit, ShortHeader, DirectoryOut, DirectoryTwice, TooManyDirectories, ValueOut, RegionOut, PacketType, Overlap, BigTiff, DirectoryLong, Utf16, NotUtf8, BadChar, Doctype, BadReference, BadTag, BadComment, BadInstruction, Encoding, BadCdata, OutsideRoot, Mismatch, BadNamespace, UnboundPrefix, TwiceAttribute, TooDeep, Unfinished, NoRdf, NotDescription, AboutDiffers, NoNamespace, XmlName, RdfName, RefusedAttribute, BadParseType, Mixed, ManyNodes, BadContainer, BadItem, TwiceValue, Twice, TreeDeep, ScriptLimit, ScriptUtf8, BadLine, BadPath, UnknownPrefix, Reserved, BadText, BadLanguageTag, EditDeep, NoSuchPlace, WrongShape, OutOfArray, SegmentLimit, TiffLimit, AfterMultiPicture, NeedsRelocation, OutLimit, ResourceOut, BadDataset, DatasetOut, DatasetLong, ExifHeader, ExifDirectory, ExifValue, BlockLimit, RiffOut, NoVp8x, RiffLimit, PsdOut, PsdLimit, NotSynced, ExifLimit, ResourceLimit}
 
--- Of two rules that hold at one place the one of the least number is answered.
+-- In XML and RDF, of the rules that hold at one place the one of the least number is answered; the other formats state an order of their own.
 abbrev pub number_of : Rule → ℕ
 number_of NotKnown = 1
 number_of FileLimit = 2

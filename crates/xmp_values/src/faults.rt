@@ -20,6 +20,7 @@ pub enum Part {
     Iptc,
 }
 
+/// A place in a part of the work.
 #[derive(Clone, Copy, Debug, PartialEq, Eq)]
 pub struct Place {
     pub part: Part,

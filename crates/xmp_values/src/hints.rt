@@ -10,7 +10,9 @@ use std::marker::Model;
 /// A namespace and its prefix.
 #[derive(Drop)]
 pub struct Hint {
+    /// The namespace, of one or more Chars.
     pub space: Bytes,
+    /// The prefix, a name without colon.
     pub prefix: Bytes,
 }
 
@@ -34,6 +36,7 @@ impl Model for Hints {
 }
 
 impl Hints {
+    /// No hints, which takes no memory.
     pub fn new(alloc: Global) -> Hints
         ensures { result ≡ [] }
     {
@@ -42,6 +45,15 @@ impl Hints {
         }
     }
 
+    /// A list that is valid.
+    pub fn from_list(list: Sequence<Hint>) -> Hints
+        requires { AreValid list }
+        ensures { result ≡ list }
+    {
+        Hints { list }
+    }
+
+    /// Puts a hint at the end, with which the list is to stay valid.
     pub fn push(&mut self, hint: Hint) -> Result<(), Memory>
         requires { AreValid (self.old ++ hint ∷ []) }
         ensures ok { OnOk result (self.new ≡ self.old ++ hint ∷ []) }
@@ -51,6 +63,7 @@ impl Hints {
         Ok(())
     }
 
+    /// The number of hints.
     pub fn len(&self) -> usize
         ensures count { result ≡ length self.now }
         ensures valid { AreValid self.now }
@@ -58,9 +71,18 @@ impl Hints {
         self.list.len()
     }
 
+    /// The hint at a place, from 0; None exactly where there is none.
     pub fn get(&self, at: usize) -> Option<&Hint>
         ensures { option_copied result ≡ slice_get self.now at }
     {
         self.list.get(at)
+    }
+
+    /// The hints as a list, without copying them.
+    pub fn into_sequence(self) -> Sequence<Hint>
+        ensures { result ≡ self }
+    {
+        let Hints { list } = self;
+        list
     }
 }

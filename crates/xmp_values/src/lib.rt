@@ -1,8 +1,9 @@
-//! What every crate speaks of: lists, texts, names, digits, words, faults.
+//! What every crate speaks of: lists, texts, names and sets of them, characters, hints,
+//! digits, words, rules and faults.
 //!
-//! Each type is to contracts the plain value that it stands for: a `Sequence` its
-//! list, a `Text` its bytes, `Words` a list of texts. Nothing here reads a file or
-//! knows a format; it stands on `std` alone.
+//! Each type is to contracts the plain value that it stands for: a `Sequence` its list, a
+//! `Text` its bytes, `Words` a list of texts. Nothing here reads a file; it stands on `std`
+//! alone. XML 1.0 (fifth edition) and Namespaces in XML 1.0 for characters and names.
 #![tactic(auto)]
 
 mod characters;
@@ -18,16 +19,13 @@ mod text;
 mod words;
 
 pub use characters::{is_blank, is_char, is_char_text, is_name, is_name_char, is_name_start};
-pub use digits::Digits;
+pub use digits::{Digits, is_hex_digit};
 pub use faults::{Fault, Part, Place};
 pub use hints::{Hint, Hints};
 pub use memory::Memory;
 pub use names::{NameSet, Named, names_differ};
 pub use rules::Rule;
-pub use sequence::Sequence;
+pub use sequence::{Bytes, Sequence};
 pub use span::Span;
 pub use text::{Name, Text};
 pub use words::Words;
-
-/// An owned list of bytes.
-pub type Bytes = Sequence<u8>;

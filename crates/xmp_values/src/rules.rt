@@ -1,11 +1,12 @@
 //! The rules that a file, a script or an edit can break.
 //!
-//! A rule has a number, which orders the rules that hold at one place, and a name, which
-//! the program prints. Two rules bear the name `BadTag`: of XML, and of a script's language
+//! A rule has a number, which in XML and RDF orders the rules that hold at one place, and a
+//! name, which the program prints. Two rules bear the name `BadTag`: of XML, and of a script's language
 //! tag, whose variant is `BadLanguageTag`.
 ghost use Rattle.std.specs.Prelude.{◌≡◌};
 ghost use Rattle.xmp_values.specs.Rules.{number_of, name_of};
 
+/// A rule that can be broken. Its number and its name are flat tables.
 #[derive(Clone, Copy, Debug, PartialEq, Eq)]
 pub enum Rule {
     // Files

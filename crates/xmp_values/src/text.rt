@@ -27,6 +27,7 @@ impl<'p> Model for Text<'p> {
 }
 
 impl<'p> Text<'p> {
+    /// A text that borrows its bytes.
     pub fn raw(bytes: &'p [u8]) -> Text<'p>
         ensures { result ≡ bytes.now }
     {
@@ -35,6 +36,7 @@ impl<'p> Text<'p> {
         }
     }
 
+    /// A text that owns its bytes.
     pub fn own(bytes: Bytes) -> Text<'p>
         ensures { result ≡ bytes }
     {
@@ -43,6 +45,7 @@ impl<'p> Text<'p> {
         }
     }
 
+    /// The bytes.
     pub fn bytes(&self) -> &[u8]
         ensures { result.now ≡ self.now }
     {

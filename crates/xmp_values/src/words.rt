@@ -42,6 +42,7 @@ impl Word {
 }
 
 impl Words {
+    /// No words, which takes no memory.
     pub fn new(alloc: Global) -> Words
         ensures { result ≡ [] }
     {
@@ -51,6 +52,7 @@ impl Words {
         }
     }
 
+    /// Copies a word to the end. Without memory the words stay as they were.
     pub fn push(&mut self, word: &str) -> Result<(), Memory>
         ensures ok { OnOk result (self.new ≡ self.old ++ word.now ∷ []) }
         ensures err { OnErr result (self.new ≡ self.old) }
@@ -60,12 +62,14 @@ impl Words {
         Ok(())
     }
 
+    /// The number of words.
     pub fn len(&self) -> usize
         ensures { result ≡ length self.now }
     {
         self.list.len()
     }
 
+    /// The word at a place, from 0; None exactly where there is none.
     pub fn get(&self, i: usize) -> Option<&str>
         ensures { option_copied result ≡ slice_get self.now i }
     {

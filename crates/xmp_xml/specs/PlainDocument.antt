@@ -6,14 +6,10 @@ use Rattle.xml_grammar.specs.declared.elements.Attribute.{Attribute}
 use Rattle.xml_grammar.specs.declared.elements.Child.{Child}
 use Rattle.xml_grammar.specs.declared.elements.Child.TheVariants as child
 use Rattle.xml_grammar.specs.declared.elements.Element.{Element, roll-Element}
+unfoldable pub use Rattle.xmp_values.specs.Spaces.{rdf_space, meta_space}
 use Rattle.xmp_xml.specs.Plain.{Property, ArePlain, line, meta_tag, rdf_tag, head}
 
-unfoldable pub x_space : List ℕ
-x_space = codes "adobe:ns:meta/"
-
-unfoldable pub rdf_space : List ℕ
-rdf_space = codes "http://www.w3.org/1999/02/22-rdf-syntax-ns#"
-
+-- the namespace of Dublin Core
 unfoldable pub dc_space : List ℕ
 dc_space = codes "http://purl.org/dc/elements/1.1/"
 
@@ -51,7 +47,7 @@ abbrev pub description : List Child → Element
 description children = element (length (meta_tag ++ rdf_tag)) (named rdf_space (codes "Description")) about (line_break ∷ children)
 
 abbrev pub packet : Element → Element
-packet e = element 0 (named x_space (codes "xmpmeta")) [] (around (element (length meta_tag) (named rdf_space (codes "RDF")) [] (around e)))
+packet e = element 0 (named meta_space (codes "xmpmeta")) [] (around (element (length meta_tag) (named rdf_space (codes "RDF")) [] (around e)))
 
 -- the root of a plain text with these properties
 unfoldable pub root_of : List Property → Element

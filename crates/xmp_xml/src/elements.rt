@@ -1,7 +1,7 @@
 //! The element tree of a plain text.
 ghost use Rattle.std.specs.Prelude.{◌≡◌, [], ◌∷◌, IfOk, codes};
 ghost use Rattle.xml_grammar.specs.declared.elements.Child.TheVariants as child;
-ghost use Rattle.xmp_xml.specs.PlainDocument.{dc_space, rdf_space, x_space, named, element, content, property_element, line_break, around, about, description, packet};
+ghost use Rattle.xmp_xml.specs.PlainDocument.{dc_space, rdf_space, meta_space, named, element, content, property_element, line_break, around, about, description, packet};
 ghost use Rattle.xmp_xml.specs.Lines.{property_of, line_children};
 
 use crate::lines::Line;
@@ -31,7 +31,7 @@ fn dublin_core<'p>(local: Text<'p>) -> Name<'p>
     named(b"http://purl.org/dc/elements/1.1/".as_slice(), local)
 }
 
-#[tactic(auto, unfolding(crate::specs::PlainDocument::rdf_space))]
+#[tactic(auto, unfolding(xmp_values::specs::Spaces::rdf_space))]
 fn rdf<'p>(local: &'static [u8]) -> Name<'p>
     ensures { result ≡ named rdf_space local.now }
 {
@@ -41,9 +41,9 @@ fn rdf<'p>(local: &'static [u8]) -> Name<'p>
     )
 }
 
-#[tactic(auto, unfolding(crate::specs::PlainDocument::x_space))]
+#[tactic(auto, unfolding(xmp_values::specs::Spaces::meta_space))]
 fn xmpmeta<'p>() -> Name<'p>
-    ensures { result ≡ named x_space (codes "xmpmeta") }
+    ensures { result ≡ named meta_space (codes "xmpmeta") }
 {
     named(
         b"adobe:ns:meta/".as_slice(),

@@ -14,7 +14,10 @@ loop-i-preserved c =
       tested = below_more _ _ c.loop-i.invariant.tested (search rules);
       put = below_more _ _
           (λ k h. let ne : k ≢ c.loop-i.i = omega arith in rw get_or-set_other (c.loop-i.invariant.put k h))
-          (rw get_or-set_same c.capital_of.ensures);
+          (rw get_or-set_same c.capital_of.ensures.value);
+      capitals = below_more _ _
+          (λ k h. let ne : k ≢ c.loop-i.i = omega arith in rw get_or-set_other (c.loop-i.invariant.capitals k h))
+          (rw get_or-set_same c.capital_of.ensures.capital);
     }
 
 pub returns : goal.returns
