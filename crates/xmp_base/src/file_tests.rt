@@ -6,7 +6,8 @@ use crate::{
     Words, append, copy_range, window,
 };
 use std::alloc::Global;
-use std::fs;
+use std::io::{ErrorKind, Write};
+use std::{fs, io};
 
 /// Puts a whole file into one that it creates, in pieces of the buffer's length.
 fn copy_file<D: Desk>(desk: &mut D, from: &str, to: &str, buffer: &mut [u8]) -> Result<(), Failed>
@@ -110,12 +111,28 @@ fn reaches_real_files(rt: HostRuntime) {
     assert!(rt; fs::remove_file(&rt, "in.bin").is_ok() && fs::remove_file(&rt, "out.bin").is_ok());
 }
 
+/// A writer that takes all and can hand on nothing.
+#[derive(Drop)]
+struct Stuck;
+
+impl Write for Stuck {
+    fn write(&mut self, from: &[u8]) -> io::Result<usize> {
+        Ok(from.len())
+    }
+
+    fn flush(&mut self) -> io::Result<()> {
+        Err(io::Error::from(ErrorKind::BrokenPipe))
+    }
+}
+
 #[test]
 fn hands_a_line_to_a_writer(rt: HostRuntime) {
     let mut bytes = Vec::new(rt.alloc());
     let mut sink = StdSink::new(&mut bytes);
     assert_eq!(rt; sink.write(b"line\n"), Ok(5));
     assert!(rt; bytes.as_slice() == "line\n".as_bytes());
+    assert_eq!(rt; StdSink::new(Stuck).write(b"line\n"), Err(Failed));
+    assert_eq!(rt; StdSink::new(Stuck).write(b""), Ok(0));
     let span = FileSpan { start: 1, end: 3 };
     assert_eq!(rt; span.within(3), Some(Span { start: 1, end: 3 }));
     assert_eq!(rt; span.within(2), None);
