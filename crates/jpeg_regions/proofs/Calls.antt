@@ -1,16 +1,16 @@
 -- What follows from several reads of a device, one after another.
-use Rattle.std.proofs.Common.{rules, ◌≡◌, ◌≢◌, ℕ, ◌+◌, ◌-◌, ◌≤◌, ◌<◌, List, [], ◌∷◌, ◌++◌, length, take, drop, refl, sym, ap, ◌∙◌, subst, arith, Ok, Err, Some, None, append_assoc}
+use Rattle.std.proofs.Common.{rules, ◌≡◌, ℕ, ◌+◌, ◌-◌, ◌≤◌, List, [], ◌∷◌, ◌++◌, length, take, drop, refl, sym, ap, ◌∙◌, subst, arith, Ok, Err, Some, append_assoc}
 use Rattle.std.specs.declared.result.Result.{Result}
 use Rattle.std.specs.declared.option.Option.{Option}
 use Rattle.std.specs.List.{All}
 use Rattle.std.specs.Prelude.{IfOk}
 use Rattle.std.proofs.Math.Seq.{take-add}
 use Rattle.std.proofs.lemmas.Slice.{take-put_mid_below}
-use Rattle.std.proofs.lemmas.List.{append-nil, take-append-le, take_at, drop_at, take_all, drop-drop, length-take-le, length-drop, length-append}
+use Rattle.std.proofs.lemmas.List.{append-nil, take-append-le, drop_at, take_all, drop-drop, length-take-le, length-drop, length-append}
 use Rattle.std.proofs.lemmas.List.Elements.{All-append, All-nil}
 use borrow.Rule.Slice.PartMut.{put_mid, post_of}
 use Rattle.xmp_base.specs.declared.device.Failed.{Failed}
-use Rattle.xmp_base.specs.Device.{DeskState, Files, Moved, ReadCall, SameFiles, NotFewer, bytes_of, told_move, told_push, Told, Rose, len_of}
+use Rattle.xmp_base.specs.Device.{DeskState, Moved, ReadCall, SameFiles, NotFewer, bytes_of, told_move, told_push, Rose, len_of}
 use Rattle.jpeg_regions.specs.FromDesk.{ReadsOnly, ReadsWithin, FilledFrom, FillCall}
 
 pub same_trans : (s t u : DeskState) → SameFiles s t → SameFiles t u → SameFiles s u

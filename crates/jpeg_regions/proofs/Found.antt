@@ -1,17 +1,16 @@
 -- What a reader of regions knows after each step.
-use Rattle.std.proofs.Common.{◌≡◌, ◌≢◌, ℕ, zero, suc, ◌+◌, ◌*◌, ◌-◌, ◌<◌, ◌≤◌, min, Bool, true, false, cond, ◌==◌, ◌&&◌, nat_eq, List, [], ◌∷◌, ◌++◌, length, take, drop, replicate, refl, sym, ap, subst, ◌∙◌, arith, append_assoc, lit<}
+use Rattle.std.proofs.Common.{◌≡◌, ℕ, ◌+◌, ◌*◌, ◌-◌, ◌<◌, ◌≤◌, min, Bool, true, false, cond, ◌==◌, ◌&&◌, nat_eq, List, [], ◌∷◌, ◌++◌, length, take, drop, replicate, refl, sym, ap, subst, ◌∙◌, arith, append_assoc, lit<}
 use Rattle.std.specs.List.{starts_with}
 use Rattle.std.proofs.lemmas.List.{append-nil, drop-drop, length-replicate, length-append, length-drop, length-take, length-take-le, replicate_more, take-append-drop, take-take}
 use Rattle.std.proofs.lemmas.Bool.Decides.{nat_tests}
-use Rattle.xmp_values.specs.declared.rules.Rule.TheVariants.{BadMarker, BadLength, Truncated, NoTail}
+use Rattle.xmp_values.specs.declared.rules.Rule.TheVariants.{BadMarker, BadLength, Truncated}
 use Rattle.jpeg_regions.specs.declared.marker.Class.{Class}
 use Rattle.jpeg_regions.specs.declared.marker.Class.TheVariants.{Fill, Refused, Single, Last, Sized}
 use Rattle.jpeg_regions.specs.declared.kind.RegionKind.{RegionKind}
 use Rattle.jpeg_regions.specs.declared.kind.RegionKind.TheVariants.{Main, Portion, Exif, Resources, Mpf, App0, Other, Alone, Tail}
-use Rattle.jpeg_regions.specs.declared.reading.Found.{Found}
 use Rattle.jpeg_regions.specs.Markers.{class_of}
 use Rattle.jpeg_regions.specs.Kinds.{kind_of, front_len, is_portion, is_exif, packet_signature, mpf_signature, resources_signature}
-use Rattle.jpeg_regions.specs.Jpeg.{Segment, Region, text, span, region, region_by, bare, IsInner, IsTail, HasBody, HasLength, IsShort, IsLow, Begins, Breaks, refused, low, filling, short}
+use Rattle.jpeg_regions.specs.Jpeg.{Segment, Region, text, span, region_by, HasBody, IsShort, Begins, Breaks, refused, low, filling, short}
 use Rattle.jpeg_regions.specs.Reads.{AfterFill, AfterMarker, AfterLength, FoundInner, FoundTail, region_of, payload_end}
 use Rattle.jpeg_regions.proofs.Fronts.{kind_of-take}
 use Rattle.jpeg_regions.proofs.Pieces.{none_left}

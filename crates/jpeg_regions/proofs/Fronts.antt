@@ -1,5 +1,5 @@
 -- The bytes of a payload that tell its kind.
-use Rattle.std.proofs.Common.{◌≡◌, ◌≢◌, ℕ, ◌+◌, ◌≤◌, min, Bool, true, false, cond, ◌&&◌, nat_eq, nat_le, ◌==◌, ◌⊎◌, inl, inr, List, length, take, drop, refl, sym, ap, subst, ◌∙◌, arith, lit≤}
+use Rattle.std.proofs.Common.{◌≡◌, ℕ, ◌≤◌, min, Bool, false, cond, ◌&&◌, nat_eq, nat_le, ◌==◌, inl, inr, List, length, take, drop, sym, ap, subst, ◌∙◌, arith, lit≤}
 use Rattle.std.specs.List.{starts_with, list_all}
 use lib.Pointwise.{pointwise}
 use Rattle.std.proofs.lemmas.List.{take-take, take_min, drop-take, length-take}

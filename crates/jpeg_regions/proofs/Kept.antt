@@ -1,15 +1,15 @@
 -- One region more.
-use Rattle.std.proofs.Common.{◌≡◌, ◌≢◌, ℕ, zero, suc, ◌+◌, ◌-◌, ◌<◌, ◌≤◌, List, [], ◌∷◌, ◌++◌, length, map, take, drop, refl, sym, ap, subst, ◌∙◌, arith, append_assoc, Err, inl}
+use Rattle.std.proofs.Common.{◌≡◌, ℕ, ◌+◌, ◌≤◌, List, [], ◌∷◌, ◌++◌, length, map, drop, refl, sym, ap, subst, ◌∙◌, arith, append_assoc, Err, inl}
 use Rattle.std.specs.Prelude.{flat_map}
 use Rattle.std.specs.List.{AllByRecursion}
-use Rattle.std.proofs.lemmas.List.{append-nil, length-append, map_push, flat_map_more, take-append-drop}
+use Rattle.std.proofs.lemmas.List.{length-append, map_push, flat_map_more, take-append-drop}
 use Rattle.xmp_values.specs.declared.rules.Rule.{Rule}
 use Rattle.jpeg_regions.specs.declared.kind.RegionKind.{RegionKind}
 use Rattle.jpeg_regions.specs.declared.kind.RegionKind.TheVariants.{Main, Portion, Exif, Resources, Mpf, App0, Other, Alone, Tail}
 use Rattle.jpeg_regions.specs.declared.reading.Found.{Found}
 use Rattle.jpeg_regions.specs.declared.cutting.JpegStop.{JpegStop}
 use Rattle.jpeg_regions.specs.declared.cutting.JpegStop.TheVariants.{Fault, Memory}
-use Rattle.jpeg_regions.specs.Jpeg.{Segment, Region, text, region, placed, IsInner, IsTail, Cuts, Broken, Breaks}
+use Rattle.jpeg_regions.specs.Jpeg.{Segment, Region, text, region, placed, IsInner, Cuts, Broken, Breaks}
 use Rattle.jpeg_regions.specs.Reads.{FoundInner, FoundTail, region_of, payload_end}
 use Rattle.jpeg_regions.specs.Cutting.{Tiles, Underway, BeginsJpeg, CutAnswer, TakeAnswer}
 

@@ -4,6 +4,7 @@ pub mod Faults
 pub mod Found
 pub mod Fronts
 pub mod Kept
+pub mod Lent
 pub mod Near
 pub mod Pieces
 pub mod Sizes

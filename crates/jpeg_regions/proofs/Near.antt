@@ -1,8 +1,8 @@
 -- What is wanted of a file lies near the beginnings of its regions.
-use Rattle.std.proofs.Common.{◌≡◌, ◌≢◌, ◌⊎◌, inl, inr, ℕ, zero, suc, ◌+◌, ◌-◌, ◌*◌, ◌<◌, ◌≤◌, min, cond, List, [], ◌∷◌, ◌++◌, length, drop, replicate, refl, sym, ap, subst, ◌∙◌, arith, append_assoc, Some, get_or}
+use Rattle.std.proofs.Common.{◌≡◌, inl, inr, ℕ, ◌+◌, ◌-◌, ◌*◌, ◌<◌, ◌≤◌, min, List, [], ◌∷◌, ◌++◌, length, drop, refl, sym, ap, subst, ◌∙◌, arith, append_assoc, Some, get_or}
 use Rattle.std.specs.Prelude.{flat_map, slice_get}
 use Rattle.std.specs.List.{AllByRecursion}
-use Rattle.std.proofs.lemmas.List.{length-append, length-replicate, append-nil}
+use Rattle.std.proofs.lemmas.List.{length-append, append-nil}
 use Rattle.std.proofs.lemmas.Bool.Decides.{nat_tests}
 use Rattle.std.proofs.lemmas.List.Elements.{All-append, All-nil}
 use Rattle.xmp_base.specs.Device.{DeskState, Moved, Told, bytes_of}
@@ -15,12 +15,12 @@ use Rattle.jpeg_regions.specs.Markers.{class_of}
 use Rattle.jpeg_regions.specs.Kinds.{front_len}
 use Rattle.jpeg_regions.specs.Wanted.{count_of}
 use Rattle.jpeg_regions.specs.Jpeg.{Segment, Region, text, region, region_by, placed, IsInner, IsTail, HasLength, Cuts}
-use Rattle.jpeg_regions.specs.Reads.{Reads, AfterFill, AfterMarker, AfterLength}
+use Rattle.jpeg_regions.specs.Reads.{Reads}
 use Rattle.jpeg_regions.specs.Cutting.{Underway}
 use Rattle.jpeg_regions.specs.FromDesk.{near_end, IsNear, CutCalls, ReadsOnly}
 use Rattle.jpeg_regions.proofs.Calls.{same_trans, counts_trans}
 use Rattle.jpeg_regions.proofs.Found.{length-text}
-use Rattle.jpeg_regions.proofs.Unique.{IsSegment, run_unique, run_below, not_fill, sized_not_fill, inner_class, marker_ends, text-append, begins_list}
+use Rattle.jpeg_regions.proofs.Unique.{IsSegment, run_unique, run_below, not_fill, sized_not_fill, marker_ends, text-append, begins_list}
 use Rattle.jpeg_regions.proofs.Faults.{sized_body}
 
 start_by : (c : Class) (at : ℕ) (s : Segment) → (region_by c at s).range.start ≡ at

@@ -1,5 +1,5 @@
 -- What the bytes that were wanted say of the rest of a file.
-use Rattle.std.proofs.Common.{◌≡◌, ℕ, zero, suc, ◌+◌, ◌-◌, ◌<◌, ◌≤◌, min, List, [], ◌∷◌, length, get_or, take, drop, refl, sym, ap, ◌∙◌, arith}
+use Rattle.std.proofs.Common.{◌≡◌, ℕ, zero, suc, ◌+◌, ◌-◌, ◌<◌, min, List, [], ◌∷◌, length, get_or, take, drop, refl, sym, ap, ◌∙◌, arith}
 use Rattle.std.proofs.lemmas.List.{drop-drop, length-drop, take_min}
 
 front_one : (xs piece : List ℕ) (n : ℕ) → piece ≡ take n xs → 0 < length piece → xs ≡ get_or piece 0 0 ∷ drop 1 xs

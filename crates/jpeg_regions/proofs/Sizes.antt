@@ -1,17 +1,15 @@
 -- The length of a device's file, before it is cut.
-use Rattle.std.proofs.Common.{◌≡◌, ◌≢◌, ℕ, ◌+◌, ◌<◌, ◌≤◌, IsTrue, List, [], ◌∷◌, length, take, refl, sym, ap, subst, ◌∙◌, arith, Ok, Err, Some, None}
+use Rattle.std.proofs.Common.{◌≡◌, ℕ, ◌<◌, ◌≤◌, IsTrue, List, [], ◌∷◌, length, refl, sym, ap, subst, ◌∙◌, arith, Ok, Err, Some, None}
 use Rattle.std.specs.declared.option.Option.{Option}
 use Rattle.std.specs.declared.result.Result.{Result}
-use Rattle.std.specs.FinMap.{get, insert, contains_key}
+use Rattle.std.specs.FinMap.{get, contains_key}
 use Rattle.std.specs.Option.{unwrap_or}
 use Rattle.std.specs.Prelude.{IfOk}
 use Rattle.xmp_base.proofs.Names.{get-insert_same, get-insert_other}
-use Rattle.xmp_base.specs.declared.device.SizeStop.{SizeStop}
-use Rattle.xmp_base.specs.declared.device.SizeStop.TheVariants.{Absent, Failed as SizeFailed}
-use Rattle.xmp_base.specs.Device.{DeskState, Lens, Files, SizeCall, Told, OthersKeep, bytes_of, is_known, len_of, size_of, Rose}
+use Rattle.xmp_base.specs.Device.{DeskState, Lens, SizeCall, Told, OthersKeep, bytes_of, is_known, len_of, size_of, Rose}
 use Rattle.xmp_values.specs.declared.rules.Rule.TheVariants.{NoTail}
 use Rattle.jpeg_regions.specs.declared.from_desk.CutStop.{CutStop}
-use Rattle.jpeg_regions.specs.declared.from_desk.CutStop.TheVariants.{Fault, Device, Memory}
+use Rattle.jpeg_regions.specs.declared.from_desk.CutStop.TheVariants.{Fault, Device}
 use Rattle.jpeg_regions.specs.Jpeg.{Region}
 use Rattle.jpeg_regions.specs.Cutting.{BeginsJpeg, Tiles}
 use Rattle.jpeg_regions.specs.FromDesk.{CutCalls, CutFromAnswer, CutFromCall}

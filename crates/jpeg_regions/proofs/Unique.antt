@@ -1,18 +1,12 @@
 -- A file's bytes tell its segments, and why there are none.
-use Rattle.std.proofs.Common.{◌≡◌, ◌≢◌, ◌⊎◌, inl, inr, ℕ, zero, suc, ◌+◌, ◌*◌, ◌<◌, ◌≤◌, zero-le, Bool, true, false, cond, nat_lt, ◌==◌, List, [], ◌∷◌, ◌++◌, length, take, drop, replicate, refl, sym, ap, subst, ◌∙◌, arith, append_assoc, Some}
-use Rattle.std.specs.Prelude.{flat_map, slice_get}
-use Rattle.std.specs.Option.{option_map}
+use Rattle.std.proofs.Common.{◌≡◌, ◌≢◌, ◌⊎◌, inl, inr, ℕ, zero, suc, ◌≤◌, zero-le, List, [], ◌∷◌, ◌++◌, length, take, drop, replicate, refl, sym, ap, ◌∙◌, arith, append_assoc}
+use Rattle.std.specs.Prelude.{flat_map}
 use Rattle.std.specs.List.{AllByRecursion}
-use Rattle.std.proofs.lemmas.List.{append-nil, length-append, length-replicate, take_at, drop_at}
-use Rattle.std.proofs.lemmas.Bool.{ne_eqb}
-use Rattle.std.proofs.lemmas.Bool.Decides.{nat_tests}
-use Rattle.xmp_values.specs.declared.rules.Rule.{Rule}
-use Rattle.xmp_values.specs.declared.rules.Rule.TheVariants.{BadMarker, BadLength, Truncated, NoTail}
+use Rattle.std.proofs.lemmas.List.{take_at, drop_at}
 use Rattle.jpeg_regions.specs.declared.marker.Class.{Class}
 use Rattle.jpeg_regions.specs.declared.marker.Class.TheVariants.{Fill, Refused, Single, Last, Sized}
 use Rattle.jpeg_regions.specs.Markers.{class_of}
-use Rattle.jpeg_regions.specs.Jpeg.{Segment, Region, text, placed, IsInner, IsTail, HasBody, HasLength, IsShort, IsLow, Begins, Breaks, ended, unmarked, refused, low, filling, short, Cuts, Jpeg, Broken, SecondMain, FirstFault, mains}
-use Rattle.jpeg_regions.proofs.Kept.{join_push}
+use Rattle.jpeg_regions.specs.Jpeg.{Segment, text, IsInner, IsTail, HasBody, HasLength}
 
 -- FF bytes up to another byte are counted in one way
 pub run_unique : (f g m n : ℕ) (x y : List ℕ) → m ≢ 0xFF → n ≢ 0xFF → replicate f 0xFF ++ m ∷ x ≡ replicate g 0xFF ++ n ∷ y → (f ≡ g) × (m ≡ n) × (x ≡ y)

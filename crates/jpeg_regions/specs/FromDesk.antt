@@ -1,5 +1,5 @@
 -- What cutting a file of a device does and answers.
-use Rattle.std.specs.Prelude.{◌≡◌, ℕ, ◌+◌, ◌-◌, ◌<◌, ◌≤◌, min, List, [], ◌++◌, length, take, drop, All, MatchResult, OnOk, IfOk, IsTrue, slice_get, Ok, Err, Some}
+use Rattle.std.specs.Prelude.{◌≡◌, ℕ, ◌+◌, ◌≤◌, min, List, ◌++◌, length, take, drop, All, MatchResult, OnOk, IfOk, IsTrue, slice_get, Ok, Err, Some}
 use Rattle.std.specs.declared.option.Option.{Option}
 use Rattle.std.specs.declared.result.Result.{Result}
 use Rattle.xmp_base.specs.Device.{DeskState, Told, Moved, Rose, SameFiles, NotFewer, OthersKeep, bytes_of, is_known, len_of}

@@ -1,5 +1,5 @@
 -- What a reader of regions knows of a file, and what follows from the bytes that it is given.
-use Rattle.std.specs.Prelude.{◌≡◌, ℕ, ◌+◌, ◌*◌, ◌-◌, ◌<◌, ◌≤◌, List, [], ◌∷◌, ◌++◌, length, take, drop, replicate, Ok, Err}
+use Rattle.std.specs.Prelude.{◌≡◌, ℕ, ◌+◌, ◌*◌, ◌-◌, ◌<◌, ◌≤◌, List, ◌∷◌, ◌++◌, length, drop, replicate, Ok, Err}
 use Rattle.std.specs.declared.result.Result.{Result}
 use Rattle.xmp_values.specs.declared.rules.Rule.{Rule}
 use Rattle.jpeg_regions.specs.declared.marker.Class.TheVariants.{Sized}
@@ -12,7 +12,6 @@ use Rattle.jpeg_regions.specs.declared.reading.Reading.{Reading}
 use Rattle.jpeg_regions.specs.declared.reading.Step.{Step}
 use Rattle.jpeg_regions.specs.declared.reading.Step.TheVariants.{More, Inner, Last}
 use Rattle.jpeg_regions.specs.Markers.{class_of}
-use Rattle.jpeg_regions.specs.Wanted.{payload_of}
 use Rattle.jpeg_regions.specs.Jpeg.{Segment, Region, text, span, region, IsInner, IsTail, Breaks}
 
 -- behind the region's start stand FF bytes up to a place

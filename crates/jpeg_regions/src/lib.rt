@@ -15,9 +15,11 @@ mod marker;
 mod reading;
 #[cfg(test)]
 mod tests;
+mod writing;
 
 pub use cutting::JpegStop;
 pub use from_desk::CutStop;
 pub use kind::RegionKind;
 pub use laws::{exchange, one_answer};
 pub use list::Regions;
+pub use writing::payload_mut;

@@ -7,6 +7,7 @@ ghost use Rattle.jpeg_regions.specs.Wanted.{count_of, least_of, payload_of};
 
 use crate::kind::{RegionKind, front_len, kind_of};
 use crate::marker::{Class, class_of};
+use std::mem::size_of;
 use xmp_base::FileSpan;
 use xmp_values::Rule;
 
@@ -31,6 +32,9 @@ pub struct Found {
     pub payload: u64,
     pub end: u64,
 }
+
+// A list of a million regions is 32 MB.
+const _: () = prove!(size_of::<Found>() <= 32);
 
 impl Found {
     ghost use Rattle.jpeg_regions.specs.Reads.{payload_end};

@@ -2,7 +2,7 @@
 ghost use Rattle.std.specs.Prelude.{◌≡◌, ◌<◌, IfOk};
 ghost use Rattle.jpeg_regions.specs.Cutting.{BeginsJpeg};
 
-use crate::{CutStop, JpegStop, RegionKind, Regions};
+use crate::{CutStop, JpegStop, RegionKind, Regions, payload_mut};
 use std::alloc::{AllocError, Global};
 use std::test::Fail;
 use xmp_base::{FileSpan, MemoryDesk, SparseDesk};
@@ -207,4 +207,11 @@ fn over_devices(rt: HostRuntime) -> Result<(), Fail> {
         }
     );
     Ok(())
+}
+
+#[test]
+fn a_payload_is_written(rt: HostRuntime) {
+    let mut bytes = [1u8, 2, 3, 4, 5];
+    payload_mut(&mut bytes, 1, 3).copy_from_slice(&[7, 8]);
+    assert_eq!(rt; bytes, [1, 7, 8, 4, 5]);
 }

@@ -1,8 +1,7 @@
-use Rattle.std.proofs.Common.{◌≡◌, ◌∙◌, ap, subst, refl, ℕ, List, [], ◌∷◌, ◌++◌, map, Ok, Some, sym}
+use Rattle.std.proofs.Common.{subst, refl, ℕ, [], ◌∷◌, ◌++◌, map, Ok}
 use Rattle.jpeg_regions.specs.declared.reading.Step.{Step}
-use Rattle.jpeg_regions.specs.Jpeg.{Cuts}
 use Rattle.jpeg_regions.specs.Reads.{Progress, Steps, Finds, Ends, FoundInner, FoundTail, region_of}
-use Rattle.jpeg_regions.specs.Cutting.{Tiles, Underway}
+use Rattle.jpeg_regions.specs.Cutting.{Tiles}
 use Rattle.jpeg_regions.proofs.Kept.{tiles_found, underway_more, cuts_here}
 use Rattle.jpeg_regions.proofs.cutting.take.Goals as goal
 

@@ -1,4 +1,4 @@
-use Rattle.std.proofs.Common.{◌≡◌, ◌∙◌, ap, subst, refl, sym, ℕ, ◌-◌, ◌≤◌, List, length, take, drop, Ok, Err, arith}
+use Rattle.std.proofs.Common.{◌≡◌, ◌∙◌, subst, ◌-◌, length, Err, arith}
 use Rattle.std.proofs.lemmas.List.{length-take-le}
 use Rattle.xmp_base.specs.Device.{bytes_of}
 use Rattle.jpeg_regions.specs.declared.cutting.JpegStop.{JpegStop}

@@ -1,9 +1,8 @@
-use Rattle.std.proofs.Common.{◌≡◌, ◌∙◌, ◌≤◌, ap, subst, refl, sym, ℕ, List, length, Some, arith}
+use Rattle.std.proofs.Common.{◌∙◌, ◌≤◌, subst, refl, sym, ℕ, Some, arith}
 use Rattle.std.specs.declared.option.Option.{Option}
 use Rattle.xmp_base.specs.Device.{Told, bytes_of}
 use Rattle.jpeg_regions.specs.declared.reading.Reading.{Reading}
 use Rattle.jpeg_regions.specs.Cutting.{CutSoFar, Numbers}
-use Rattle.jpeg_regions.specs.FromDesk.{CutCalls}
 use Rattle.jpeg_regions.proofs.Kept.{underway_none}
 use Rattle.jpeg_regions.proofs.Near.{calls_none, calls_more}
 use Rattle.jpeg_regions.proofs.from_desk.cut_known.Goals as goal

@@ -1,4 +1,4 @@
-use Rattle.std.proofs.Common.{◌≡◌, ◌∙◌, ap, subst, refl, sym, ℕ, List, length, take, drop, Some, Ok}
+use Rattle.std.proofs.Common.{◌≡◌, subst, sym, ℕ, length, Some}
 use Rattle.std.specs.declared.option.Option.{Option}
 use Rattle.std.proofs.lemmas.Result.{err_from_is_err_and}
 use Rattle.jpeg_regions.specs.declared.reading.Reading.{Reading}

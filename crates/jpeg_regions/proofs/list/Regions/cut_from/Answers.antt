@@ -1,4 +1,4 @@
-use Rattle.jpeg_regions.proofs.Sizes.{size_known, size_len, cut_low, cut_done, told_size}
+use Rattle.jpeg_regions.proofs.Sizes.{size_known, size_len, cut_low, cut_done}
 use Rattle.jpeg_regions.proofs.list.Regions.cut_from.Goals as goal
 
 pub returns-then-len-lt2 : goal.returns-then-len-lt2

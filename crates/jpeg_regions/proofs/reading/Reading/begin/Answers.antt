@@ -1,7 +1,6 @@
-use Rattle.std.proofs.Common.{ℕ, ◌≡◌, ◌+◌, ◌≤◌, ◌<◌, List, [], ◌∷◌, length, drop, sym, ap, subst, refl, ◌∙◌, arith, lit<}
+use Rattle.std.proofs.Common.{ℕ, ◌<◌, [], ◌∷◌, length, drop, sym, ap, ◌∙◌, arith, lit<}
 use Rattle.std.proofs.lemmas.Bool.Decides.{nat_tests}
-use Rattle.jpeg_regions.specs.Jpeg.{Breaks, ended, unmarked, filling}
-use Rattle.jpeg_regions.specs.Reads.{AfterFill}
+use Rattle.jpeg_regions.specs.Jpeg.{ended, unmarked, filling}
 use Rattle.jpeg_regions.proofs.Pieces.{none_left, one_left, first_byte, second_byte}
 use Rattle.jpeg_regions.proofs.Found.{first_fill}
 use Rattle.jpeg_regions.proofs.reading.Reading.begin.Goals as goal

@@ -1,7 +1,4 @@
-use Rattle.std.proofs.Common.{ℕ, ◌≡◌, ◌+◌, ◌≤◌, sym, ap, subst, ◌∙◌, arith}
-use Rattle.jpeg_regions.specs.declared.kind.RegionKind.{RegionKind}
-use Rattle.jpeg_regions.specs.declared.reading.Found.{Found}
-use Rattle.jpeg_regions.specs.Reads.{FoundInner}
+use Rattle.std.proofs.Common.{arith}
 use Rattle.jpeg_regions.proofs.Found.{sized_found}
 use Rattle.jpeg_regions.proofs.reading.Reading.complete.Goals as goal
 

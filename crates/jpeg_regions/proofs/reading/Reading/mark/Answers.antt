@@ -1,6 +1,4 @@
-use Rattle.std.proofs.Common.{◌≡◌, ◌∙◌, sym, subst, ℕ}
-use Rattle.jpeg_regions.specs.declared.reading.Found.{Found}
-use Rattle.jpeg_regions.specs.Reads.{Reads, FoundInner, FoundTail}
+use Rattle.std.proofs.Common.{◌∙◌, sym}
 use Rattle.jpeg_regions.proofs.Found.{fill_more, refused_here, single_found, tail_found}
 use Rattle.jpeg_regions.proofs.reading.Reading.mark.Goals as goal
 

@@ -1,5 +1,3 @@
-use Rattle.std.proofs.Common.{ℕ, ◌≡◌, ◌+◌, ◌≤◌, ◌<◌, List, [], ◌∷◌, length, drop, sym, ap, subst, refl, ◌∙◌, arith}
-use Rattle.jpeg_regions.specs.Reads.{Reads, AfterLength}
 use Rattle.jpeg_regions.proofs.Pieces.{first_two}
 use Rattle.jpeg_regions.proofs.Found.{cut_short, low_here, short_here, length_read}
 use Rattle.jpeg_regions.proofs.reading.Reading.measure.Goals as goal

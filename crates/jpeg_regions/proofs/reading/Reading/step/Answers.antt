@@ -1,4 +1,4 @@
-use Rattle.std.proofs.Common.{ℕ, ◌≡◌, List, length, take, drop, subst, sym, arith}
+use Rattle.std.proofs.Common.{◌≡◌, take, drop, subst, arith}
 use Rattle.std.proofs.lemmas.Bool.Decides.{nat_tests}
 use Rattle.jpeg_regions.specs.declared.reading.Wants.{Wants}
 use Rattle.jpeg_regions.specs.Wanted.{count_of}
