@@ -29,7 +29,7 @@ impl Model for Regions {
 
 impl Regions {
     /// The list of what was found; a second main region is the fault, with its place.
-    pub fn of(found: Vec<Found>) -> Result<Regions, (Rule, u64)>
+    pub(crate) fn of(found: Vec<Found>) -> Result<Regions, (Rule, u64)>
         ensures { MatchResult result
             (λ regions. (regions ≡ map region_of found.items) × (length (mains regions) ≤ 1))
             (λ e. (e.0 ≡ Rule.TwoPackets) × (option_map (λ r. r.range.start) (slice_get (mains (map region_of found.items)) 1) ≡ Some e.1)) }
