@@ -1,8 +1,7 @@
 -- What is read as an XML declaration is spelled so, and what is spelled so is read.
-use Rattle.std.proofs.Common.{◌≡◌, ◌≢◌, ℕ, Bool, true, false, cond, eqb, ◌||◌, ◌⊎◌, List, [], ◌∷◌, ◌++◌, Option, Some, None, refl, sym, ap, subst, ◌∙◌, append_assoc, inl, inr}
+use Rattle.std.proofs.Common.{◌≡◌, ◌≢◌, ℕ, Bool, true, false, cond, ◌⊎◌, List, [], ◌∷◌, ◌++◌, Option, Some, None, refl, sym, ap, subst, ◌∙◌, append_assoc, inl, inr}
 use Rattle.std.specs.Prelude.{IsTrue, codes, encode_utf8_all}
 use Rattle.std.specs.List.{list_all}
-use Rattle.std.proofs.lemmas.Bool.{eqb-true}
 use Rattle.xmp_values.specs.Characters.{is_blank, is_name_start, is_name_char}
 use Rattle.xml_grammar.specs.Spelling.{AreBlank, IsGap, IsEquals, IsQuote, quoted, is_digit, SpellsGiven, IsVersion, SpellsEncoding, IsStandalone}
 use Rattle.xml_grammar.proofs.Splits.{both, all_head, Stops}
@@ -11,10 +10,10 @@ use Rattle.xml_grammar.proofs.HeadParts.{HeadText}
 use Rattle.xml_tokenizer.specs.Declarations.{given_at, quoted_run_at, version_at, encoding_at, optional, answer_at, standalone_at, or_here, declaration_at}
 use Rattle.xml_tokenizer.specs.Runs.{taken, past, after, starts_with}
 use Rattle.xml_tokenizer.specs.Sections.{starts_blank}
-use Rattle.xml_tokenizer.specs.Steps.{◌>>=◌, or_else}
+use Rattle.xml_tokenizer.specs.Steps.{◌>>=◌}
 use Rattle.xml_tokenizer.specs.Values.{equals_at, quote_at}
 use Rattle.xml_tokenizer.proofs.Sought.{taken_past}
-use Rattle.xml_tokenizer.proofs.Steps.{bind_some, some_is, passed, either_gave, nothing_taken, run_again, taken_all}
+use Rattle.xml_tokenizer.proofs.Steps.{bind_some, some_is, passed, either_gave, run_again, taken_all}
 use Rattle.xml_tokenizer.proofs.ValueLaws.{equals_takes, equals_again, quote_takes, quote_again}
 use Rattle.xml_tokenizer.proofs.Words.{after_takes, after_again}
 

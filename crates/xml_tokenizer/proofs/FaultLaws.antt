@@ -1,27 +1,25 @@
 -- Which rule holds where no piece stands.
-use Rattle.std.proofs.Common.{◌≡◌, ◌≢◌, ℕ, Bool, true, false, cond, eqb, not, ◌&&◌, ◌||◌, ◌⊎◌, List, [], ◌∷◌, ◌++◌, Option, Some, None, refl, sym, ap, subst, ◌∙◌, inl, inr}
-use Rattle.std.specs.Prelude.{IsTrue, IsFalse, is_some, codes, encode_utf8_all}
+use Rattle.std.proofs.Common.{◌≡◌, ◌≢◌, ℕ, Bool, true, false, cond, eqb, ◌&&◌, List, [], ◌∷◌, Option, Some, None, refl, sym, ap, subst, ◌∙◌, inl, inr}
+use Rattle.std.specs.Prelude.{is_some, codes, encode_utf8_all}
 use Rattle.std.proofs.lemmas.Bool.{eqb-true}
 use Rattle.xmp_values.specs.Characters.{is_char}
 use Rattle.xmp_values.specs.declared.rules.Rule.{Rule}
 use Rattle.xmp_values.specs.declared.rules.Rule.TheVariants.{BadChar, Doctype, BadReference, BadTag, BadComment, BadInstruction, BadCdata}
-use Rattle.xml_grammar.specs.declared.tokens.Mode.{Mode}
-use Rattle.xml_grammar.specs.declared.tokens.Mode.TheVariants as modes
 use Rattle.xml_grammar.specs.declared.tokens.Token.{Token}
 use Rattle.xml_grammar.specs.declared.tokens.Token.TheVariants as tokens
 use Rattle.xml_grammar.specs.Spelling.{BeginsWith}
 use Rattle.xml_grammar.specs.Pieces.{HasPiece}
 use Rattle.xml_grammar.specs.Nesting.{Nest, mode_of}
-use Rattle.xml_grammar.specs.Documents.{NoPiece, IsRule}
+use Rattle.xml_grammar.specs.Documents.{IsRule}
 use Rattle.xml_grammar.proofs.Splits.{both}
 use Rattle.xml_tokenizer.specs.Classes.{is_plain}
 use Rattle.xml_tokenizer.specs.Faults.{markup_rule, rule_at}
 use Rattle.xml_tokenizer.specs.References.{reference_at}
-use Rattle.xml_tokenizer.specs.Runs.{taken, past, after, begins, starts_with}
+use Rattle.xml_tokenizer.specs.Runs.{taken, past, after, begins}
 use Rattle.xml_tokenizer.specs.Steps.{◌>>=◌}
 use Rattle.xml_tokenizer.specs.Tokens.{is_start, is_inside, markup_at, bracket_at, run_at, token_at}
 use Rattle.xml_tokenizer.specs.Values.{past_feed}
-use Rattle.xml_tokenizer.proofs.TokenLaws.{inside_is, PlainChar, char_plain, token_none}
+use Rattle.xml_tokenizer.proofs.TokenLaws.{inside_is, char_plain, token_none}
 use Rattle.xml_tokenizer.proofs.Words.{after_takes, after_again}
 
 begun : (word cs : List ℕ) → begins word cs ≡ true → BeginsWith word cs

@@ -1,6 +1,6 @@
 -- What is read as a name is spelled so, and what is spelled so is read.
-use Rattle.std.proofs.Common.{◌≡◌, ℕ, Bool, true, false, cond, eqb, ◌&&◌, ◌||◌, ◌⊎◌, List, [], ◌∷◌, ◌++◌, Option, Some, None, refl, sym, ap, subst, ◌∙◌, append_assoc, inl, inr}
-use Rattle.std.specs.Prelude.{IsTrue, IsFalse, codes, encode_utf8_all}
+use Rattle.std.proofs.Common.{◌≡◌, ℕ, Bool, true, false, eqb, ◌||◌, List, [], ◌∷◌, ◌++◌, Option, Some, None, refl, sym, ap, subst, ◌∙◌, append_assoc}
+use Rattle.std.specs.Prelude.{IsTrue, codes, encode_utf8_all}
 use Rattle.std.specs.List.{list_all}
 use Rattle.xmp_values.specs.Characters.{is_name_start, is_name_char, is_name_of}
 use Rattle.xml_grammar.specs.declared.tags.QName.{QName}
@@ -9,10 +9,9 @@ use Rattle.xml_grammar.proofs.Splits.{both, both_again, Stops}
 use Rattle.xml_grammar.proofs.Parts.{is_qname_char, start_is_name, name_all}
 use Rattle.xml_tokenizer.specs.Names.{starts_name, name_at, local_at, qname_at}
 use Rattle.xml_tokenizer.specs.Runs.{taken, past, after}
-use Rattle.xml_tokenizer.specs.Steps.{◌>>=◌}
 use Rattle.xml_tokenizer.proofs.Sought.{taken_past}
 use Rattle.xml_tokenizer.proofs.Steps.{bind_some, some_is, passed, taken_all, run_again}
-use Rattle.xml_tokenizer.proofs.Words.{after_takes, after_again}
+use Rattle.xml_tokenizer.proofs.Words.{after_takes}
 
 name_of_run : (cs : List ℕ) → starts_name cs ≡ true → IsTrue (is_name_of (taken is_name_char cs))
 name_of_run [] e = absurd cc

@@ -6,14 +6,14 @@ use Rattle.std.specs.Char.{digit_value}
 use Rattle.std.proofs.lemmas.Bool.{eqb-true, leb-true, leb-false}
 use Rattle.std.proofs.lemmas.Bool.Decides.{nat_tests}
 use Rattle.xmp_values.specs.Characters.{is_char, is_within}
-use Rattle.xml_grammar.specs.Spelling.{is_digit, number_from, Entity, Lt, Gt, Amp, Apos, Quot, entity_name, entity_char, SpellsEntity, SpellsNumber, SpellsReference}
-use Rattle.xml_grammar.proofs.Splits.{both, both_again, Stops}
+use Rattle.xml_grammar.specs.Spelling.{is_digit, number_from, Entity, Lt, Gt, Amp, Apos, Quot, entity_name, entity_char, SpellsReference}
+use Rattle.xml_grammar.proofs.Splits.{both}
 use Rattle.xml_tokenizer.specs.References.{named_at, entity_at, no_char, capped_from, starts_digit, number_at, numeric_at, marked_at, reference_at}
 use Rattle.xml_tokenizer.specs.Runs.{taken, past, after}
-use Rattle.xml_tokenizer.specs.Steps.{◌>>=◌, or_else}
+use Rattle.xml_tokenizer.specs.Steps.{or_else}
 use Rattle.xml_tokenizer.proofs.Sought.{taken_past}
 use Rattle.xml_tokenizer.proofs.Steps.{bind_some, some_is, passed, either_gave, taken_all, run_again}
-use Rattle.xml_tokenizer.proofs.Words.{after_takes, after_again}
+use Rattle.xml_tokenizer.proofs.Words.{after_takes}
 
 -- ---- entities
 

@@ -1,19 +1,19 @@
 -- What is read as a comment, a CDATA section or an instruction is spelled so, and what is spelled so is read.
-use Rattle.std.proofs.Common.{◌≡◌, ◌≢◌, ℕ, zero, suc, ◌+◌, ◌<◌, ◌≤◌, Bool, true, false, cond, eqb, ltb, not, ◌&&◌, ◌⊎◌, List, [], ◌∷◌, ◌++◌, map, length, Option, Some, None, refl, sym, ap, subst, ◌∙◌, append_assoc, append-nil, length-append, arith, inl, inr}
-use Rattle.std.specs.Prelude.{IsTrue, IsFalse, codes, encode_utf8_all}
+use Rattle.std.proofs.Common.{◌≡◌, ◌≢◌, ℕ, ◌+◌, ◌<◌, Bool, true, false, cond, eqb, ltb, List, [], ◌∷◌, ◌++◌, map, length, Option, Some, None, refl, sym, ap, subst, ◌∙◌, append_assoc, append-nil, length-append, arith, inl, inr}
+use Rattle.std.specs.Prelude.{IsTrue, codes, encode_utf8_all}
 use Rattle.std.specs.Char.{to_ascii_lowercase}
 use Rattle.std.specs.List.{list_all}
 use Rattle.std.specs.Str.{bytes_eq, str_eq_ignore_ascii_case}
 use Rattle.std.proofs.lemmas.Bool.{eqb-true, ltb-true, lt-ltb}
 use Rattle.std.proofs.lemmas.Bool.Decides.{nat_tests}
 use Rattle.std.proofs.lemmas.Str.{encodes-IsAscii, encodes_same}
-use Rattle.xmp_values.specs.Characters.{is_char, is_blank, is_name_start, is_name_char, is_name_of}
-use Rattle.xml_grammar.specs.Spelling.{BeginsWith, Lacks, AreChars, AreBlank, IsGap, IsTarget, IsInstructionText, line_ends}
+use Rattle.xmp_values.specs.Characters.{is_char, is_blank, is_name_start, is_name_char}
+use Rattle.xml_grammar.specs.Spelling.{Lacks, AreChars, AreBlank, IsGap, IsTarget, IsInstructionText, line_ends}
 use Rattle.xml_grammar.proofs.Splits.{both, all_cons, all_append, all_weaker, cons_same, head_same, tail_same, Stops}
 use Rattle.xml_grammar.proofs.Parts.{blank_no_qname}
 use Rattle.xml_grammar.proofs.ValueParts.{gap_blank}
 use Rattle.xml_tokenizer.specs.Names.{name_at}
-use Rattle.xml_tokenizer.specs.Runs.{taken, past, after, is_ascii, up_to, found_or, with_front}
+use Rattle.xml_tokenizer.specs.Runs.{after, is_ascii, up_to, found_or, with_front}
 use Rattle.xml_tokenizer.specs.Sections.{comment_at, cdata_at, starts_blank, body_at, instruction_at}
 use Rattle.xml_tokenizer.specs.Steps.{◌>>=◌}
 use Rattle.xml_tokenizer.proofs.NameLaws.{or_false, name_takes, name_again}

@@ -1,16 +1,14 @@
 -- Looking for a word, run by run.
-use Rattle.std.proofs.Common.{◌≡◌, ◌≢◌, ℕ, ◌-◌, ◌+◌, ◌<◌, ◌≤◌, Bool, true, false, cond, eqb, not, ◌&&◌, ◌||◌, List, [], ◌∷◌, ◌++◌, length, take, drop, Option, Some, None, refl, sym, ap, subst, ◌∙◌, append_assoc, arith}
+use Rattle.std.proofs.Common.{◌≡◌, ◌≢◌, ℕ, ◌-◌, Bool, true, false, cond, eqb, not, ◌&&◌, List, [], ◌∷◌, ◌++◌, length, take, Option, Some, None, refl, sym, ap, subst, ◌∙◌, append_assoc}
 use Rattle.std.specs.Prelude.{encode_utf8, encode_utf8_all}
 use Rattle.std.specs.Str.{chars, IsUtf8}
 use Rattle.std.proofs.lemmas.Bool.{ne_eqb}
-use Rattle.std.proofs.lemmas.List.{length-append, append-nil, append_cancel_right}
+use Rattle.std.proofs.lemmas.List.{append-nil, append_cancel_right}
 use Rattle.std.proofs.lemmas.Str.{chars-append, chars-nil, IsUtf8-nil, IsUtf8-take, IsUtf8-append, IsUtf8-past_char, chars_past_char}
 use Rattle.xmp_values.specs.Characters.{is_char}
 use Rattle.xml_tokenizer.specs.Classes.{is_other}
 use Rattle.xml_tokenizer.specs.Runs.{taken, past, after, up_to, found_or, with_front}
-use Rattle.xml_tokenizer.specs.Steps.{◌>>=◌}
 use Rattle.xml_tokenizer.proofs.Seams.{seam, before}
-use Rattle.xml_tokenizer.proofs.Words.{and_parts}
 
 pub taken_past : (p : ℕ → Bool) (cs : List ℕ) → cs ≡ taken p cs ++ past p cs
 taken_past p [] = refl

@@ -1,8 +1,8 @@
 -- Steps of reading, and runs.
-use Rattle.std.proofs.Common.{◌≡◌, ℕ, Bool, true, false, cond, ◌&&◌, ◌⊎◌, List, [], ◌∷◌, ◌++◌, Option, Some, None, refl, sym, ap, ◌∙◌, inl, inr}
+use Rattle.std.proofs.Common.{◌≡◌, ℕ, Bool, true, false, cond, ◌⊎◌, List, [], ◌∷◌, ◌++◌, Option, Some, None, refl, ap, inl, inr}
 use Rattle.std.specs.Prelude.{IsTrue}
 use Rattle.std.specs.List.{list_all}
-use Rattle.xml_grammar.proofs.Splits.{both, both_again, all_cons, Stops}
+use Rattle.xml_grammar.proofs.Splits.{both, all_cons, Stops}
 use Rattle.xml_tokenizer.specs.Runs.{taken, past}
 use Rattle.xml_tokenizer.specs.Steps.{◌>>=◌, or_else}
 

@@ -1,15 +1,15 @@
 -- Runs by bytes: bytes that tell by themselves that their characters are of the class.
-use Rattle.std.proofs.Common.{◌≡◌, ◌≢◌, ℕ, suc, ◌+◌, ◌/◌, ◌%◌, ◌<◌, ◌≤◌, Bool, true, false, cond, eqb, ltb, leb, not, ◌&&◌, ◌||◌, ◌⊎◌, List, [], ◌∷◌, ◌++◌, length, drop, refl, sym, ap, subst, ◌∙◌, append_assoc, length-append, arith, inl, inr}
+use Rattle.std.proofs.Common.{◌≡◌, ◌≢◌, ℕ, ◌+◌, ◌/◌, ◌%◌, ◌<◌, ◌≤◌, Bool, true, false, eqb, ltb, not, ◌&&◌, List, [], ◌∷◌, ◌++◌, length, drop, refl, sym, ap, subst, ◌∙◌, length-append, arith}
 use Rattle.std.specs.Prelude.{IsTrue, encode_utf8, encode_utf8_all}
 use Rattle.std.specs.List.{list_all, prefix_len}
 use Rattle.std.specs.Str.{chars, all_scalars, IsUtf8, IsCharBoundary}
-use Rattle.std.proofs.lemmas.Bool.{eqb-true, eqb-false, ne_eqb, ltb-true, ltb-false, lt-ltb, le-ltb}
+use Rattle.std.proofs.lemmas.Bool.{eqb-false, ne_eqb, ltb-true, ltb-false, lt-ltb, le-ltb}
 use Rattle.std.proofs.lemmas.Bool.Decides.{nat_tests}
 use Rattle.std.proofs.lemmas.Str.{encode_ascii, encodes-chars, scalars-chars, encodes-append, chars-encodes, IsCharBoundary-at_seam}
 use Rattle.std.proofs.lemmas.List.{drop_at}
 use lib.Utf8.{encode, scalar}
 use Rattle.xmp_values.specs.Characters.{is_char}
-use Rattle.xml_grammar.proofs.Splits.{both, both_again, all_cons}
+use Rattle.xml_grammar.proofs.Splits.{both, all_cons}
 use Rattle.xml_tokenizer.specs.declared.classes.Class.{Class}
 use Rattle.xml_tokenizer.specs.declared.classes.Class.TheVariants as classes
 use Rattle.xml_tokenizer.specs.Runs.{Passes}

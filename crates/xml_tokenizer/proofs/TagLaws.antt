@@ -1,14 +1,13 @@
 -- What is read as a tag is spelled so, and what is spelled so is read.
-use Rattle.std.proofs.Common.{◌≡◌, ◌≢◌, ℕ, zero, suc, ◌+◌, ◌<◌, ◌≤◌, Bool, true, false, cond, eqb, ◌||◌, ◌⊎◌, List, [], ◌∷◌, ◌++◌, length, Option, Some, None, refl, sym, ap, subst, ◌∙◌, append_assoc, length-append, arith, inl, inr}
-use Rattle.std.specs.Prelude.{IsTrue, codes, encode_utf8_all}
-use Rattle.std.specs.List.{list_all}
-use Rattle.std.proofs.lemmas.Bool.{eqb-true, eqb-false, ne_eqb, eq-eqb}
+use Rattle.std.proofs.Common.{◌≡◌, ◌≢◌, ℕ, zero, suc, ◌+◌, ◌<◌, ◌≤◌, Bool, true, false, eqb, ◌⊎◌, List, [], ◌∷◌, ◌++◌, length, Option, Some, None, refl, sym, ap, subst, ◌∙◌, append_assoc, length-append, arith, inl, inr}
+use Rattle.std.specs.Prelude.{codes, encode_utf8_all}
+use Rattle.std.proofs.lemmas.Bool.{eqb-true, eqb-false, ne_eqb}
 use Rattle.std.proofs.lemmas.Str.{length-le-encodes, encodes-append}
 use Rattle.xmp_values.specs.Characters.{is_blank, is_name_start, is_name_char}
 use Rattle.xml_grammar.specs.declared.tags.QName.{QName}
 use Rattle.xml_grammar.specs.declared.tags.RawAttribute.{RawAttribute}
 use Rattle.xml_grammar.specs.declared.tags.Tag.{Tag}
-use Rattle.xml_grammar.specs.Spelling.{AreBlank, IsGap, IsEquals, IsQuote, quoted, SpellsQName, SpellsValue, SpellsAttribute, SpellsAttributes}
+use Rattle.xml_grammar.specs.Spelling.{AreBlank, IsGap, IsEquals, quoted, SpellsQName, SpellsAttribute, SpellsAttributes}
 use Rattle.xml_grammar.specs.Pieces.{tag_close}
 use Rattle.xml_grammar.proofs.Splits.{all_head, not_both, Stops}
 use Rattle.xml_grammar.proofs.Parts.{is_qname_char, blank_no_qname, start_no_blank, apart, either, qname_starts}
@@ -21,9 +20,9 @@ use Rattle.xml_tokenizer.specs.Tags.{attribute_at, closes, attributes_at, empty_
 use Rattle.xml_tokenizer.specs.Values.{equals_at, quote_at, value_at}
 use Rattle.xml_tokenizer.proofs.NameLaws.{qname_takes, qname_again}
 use Rattle.xml_tokenizer.proofs.Sought.{taken_past}
-use Rattle.xml_tokenizer.proofs.Steps.{bind_some, some_is, passed, not_stopped, chosen, nothing_taken, run_again, taken_all}
+use Rattle.xml_tokenizer.proofs.Steps.{bind_some, some_is, not_stopped, chosen, run_again, taken_all}
 use Rattle.xml_tokenizer.proofs.ValueLaws.{equals_takes, equals_again, quote_takes, quote_again, value_takes, value_again}
-use Rattle.xml_tokenizer.proofs.Words.{after_takes, after_again}
+use Rattle.xml_tokenizer.proofs.Words.{after_takes}
 
 -- ---- attributes
 

@@ -8,7 +8,7 @@ use Rattle.xml_tokenizer.specs.declared.stops.Miss.TheVariants as misses
 use Rattle.xml_tokenizer.specs.Classes.{is_value}
 use Rattle.xml_tokenizer.specs.Runs.{taken, past, after, width, with_front}
 use Rattle.xml_tokenizer.specs.Steps.{Misses}
-use Rattle.xml_tokenizer.specs.Values.{special_at, tail_at, value_at, ended}
+use Rattle.xml_tokenizer.specs.Values.{special_at, tail_at, value_at}
 use Rattle.xml_tokenizer.proofs.Sought.{with_both}
 
 pub tail_more : (front owned : List ℕ) (count i quote : ℕ) (cs : List ℕ) (s : ℕ × List ℕ) (next : List ℕ) (total : Option (List ℕ × List ℕ)) → i < count

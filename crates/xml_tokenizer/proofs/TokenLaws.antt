@@ -1,21 +1,21 @@
 -- What is read as a token stands there, and where a piece stands a token is read.
-use Rattle.std.proofs.Common.{◌≡◌, ◌≢◌, ℕ, ◌+◌, ◌<◌, ◌≤◌, Bool, true, false, cond, eqb, not, ◌&&◌, ◌||◌, ◌⊎◌, List, [], ◌∷◌, ◌++◌, map, length, Option, Some, None, refl, sym, ap, subst, ◌∙◌, append_assoc, length-append, arith, inl, inr}
-use Rattle.std.specs.Prelude.{IsTrue, IsFalse, is_some, codes, encode_utf8_all}
+use Rattle.std.proofs.Common.{◌≡◌, ◌≢◌, ℕ, ◌<◌, Bool, true, false, cond, eqb, ◌&&◌, ◌⊎◌, List, [], ◌∷◌, ◌++◌, map, length, Option, Some, None, refl, sym, ap, subst, ◌∙◌, append_assoc, length-append, arith, inl, inr}
+use Rattle.std.specs.Prelude.{IsTrue, is_some, codes, encode_utf8_all}
 use Rattle.std.specs.List.{list_all}
 use Rattle.std.specs.Str.{chars, all_scalars, IsUtf8}
-use Rattle.std.proofs.lemmas.Bool.{eqb-true, eqb-false, ne_eqb, eq-eqb}
+use Rattle.std.proofs.lemmas.Bool.{eqb-true, eqb-false, ne_eqb}
 use Rattle.std.proofs.lemmas.Bool.Decides.{nat_tests}
 use Rattle.std.proofs.lemmas.Str.{chars-encodes, encodes-chars, encodes-append, length-le-encodes}
 use lib.Utf8.{scalar}
-use Rattle.xmp_values.specs.Characters.{is_char, is_blank, is_name_start}
+use Rattle.xmp_values.specs.Characters.{is_char, is_name_start}
 use Rattle.xml_grammar.specs.declared.tags.QName.{QName}
 use Rattle.xml_grammar.specs.declared.tags.Tag.{Tag}
 use Rattle.xml_grammar.specs.declared.tokens.Mode.{Mode}
 use Rattle.xml_grammar.specs.declared.tokens.Mode.TheVariants as modes
 use Rattle.xml_grammar.specs.declared.tokens.Token.{Token}
 use Rattle.xml_grammar.specs.declared.tokens.Token.TheVariants as tokens
-use Rattle.xml_grammar.specs.Spelling.{BeginsWith, AreChars, line_ends}
-use Rattle.xml_grammar.specs.Pieces.{Piece, Declaration, Instruction, Comment, Cdata, Start, End, Reference, LineEnd, Character, Spells, Fits, Stands, HasPiece, StandsRow, later, pieces_of, tag_close}
+use Rattle.xml_grammar.specs.Spelling.{BeginsWith, line_ends}
+use Rattle.xml_grammar.specs.Pieces.{Piece, Declaration, Instruction, Comment, Cdata, Start, End, Reference, LineEnd, Character, Spells, Fits, HasPiece, StandsRow, later, pieces_of, tag_close}
 use Rattle.xml_grammar.proofs.Splits.{both, both_again, head_same, not_both}
 use Rattle.xml_grammar.proofs.Parts.{apart, qname_starts}
 use Rattle.xml_tokenizer.specs.Classes.{is_plain}
@@ -33,10 +33,10 @@ use Rattle.xml_tokenizer.proofs.DeclarationLaws.{some_taken, declaration_takes, 
 use Rattle.xml_tokenizer.proofs.ReferenceLaws.{reference_takes, reference_again}
 use Rattle.xml_tokenizer.proofs.SectionLaws.{comment_takes, comment_again, cdata_takes, cdata_again, instruction_takes, instruction_again}
 use Rattle.xml_tokenizer.proofs.Sought.{taken_past}
-use Rattle.xml_tokenizer.proofs.Steps.{bind_some, some_is, passed, not_stopped, chosen, either_gave, taken_all}
+use Rattle.xml_tokenizer.proofs.Steps.{bind_some, some_is, not_stopped, chosen, either_gave, taken_all}
 use Rattle.xml_tokenizer.proofs.TagLaws.{start_takes, start_again, end_takes, end_again}
-use Rattle.xml_tokenizer.proofs.ValueLaws.{or_false, not_true, feed_is}
-use Rattle.xml_tokenizer.proofs.Words.{after_takes, after_again}
+use Rattle.xml_tokenizer.proofs.ValueLaws.{or_false, not_true}
+use Rattle.xml_tokenizer.proofs.Words.{after_takes}
 
 -- ---- modes
 

@@ -1,13 +1,12 @@
 -- What is read as a value is spelled so, and what is spelled so is read.
-use Rattle.std.proofs.Common.{◌≡◌, ◌≢◌, ℕ, zero, suc, ◌+◌, ◌<◌, ◌≤◌, Bool, true, false, cond, eqb, not, ◌&&◌, ◌||◌, ◌⊎◌, List, [], ◌∷◌, ◌++◌, length, Option, Some, None, refl, sym, ap, subst, ◌∙◌, append_assoc, length-append, arith, inl, inr}
+use Rattle.std.proofs.Common.{◌≡◌, ◌≢◌, ℕ, zero, suc, ◌+◌, ◌<◌, Bool, true, false, cond, eqb, not, ◌||◌, ◌⊎◌, List, [], ◌∷◌, ◌++◌, length, Option, Some, None, refl, sym, ap, subst, ◌∙◌, append_assoc, length-append, arith, inl, inr}
 use Rattle.std.specs.Prelude.{IsTrue, codes, encode_utf8, encode_utf8_all}
 use Rattle.std.specs.List.{list_all}
 use Rattle.std.proofs.lemmas.Bool.{eqb-true, eqb-false, ne_eqb, eq-eqb}
-use Rattle.std.proofs.lemmas.List.{append-nil}
 use Rattle.std.proofs.lemmas.Str.{length-le-encodes}
 use Rattle.xmp_values.specs.Characters.{is_char, is_blank}
-use Rattle.xml_grammar.specs.Spelling.{IsQuote, quoted, AreBlank, IsEquals, line_ends, line_ends_after, normal, SpellsReference, SpellsValueChar, SpellsValueChars, SpellsValue}
-use Rattle.xml_grammar.proofs.Splits.{both, both_again, head_same, tail_same, Stops}
+use Rattle.xml_grammar.specs.Spelling.{IsQuote, IsEquals, line_ends, line_ends_after, normal, SpellsReference, SpellsValueChar, SpellsValueChars}
+use Rattle.xml_grammar.proofs.Splits.{both, head_same, tail_same, Stops}
 use Rattle.xml_grammar.proofs.Parts.{IsOneBlank, blank_is, apart, either}
 use Rattle.xml_grammar.proofs.ValueParts.{is_not, NotAmong, reference_all}
 use Rattle.xml_tokenizer.specs.Classes.{is_value}
@@ -17,8 +16,8 @@ use Rattle.xml_tokenizer.specs.Steps.{◌>>=◌}
 use Rattle.xml_tokenizer.specs.Values.{equals_at, quote_at, past_feed, special_at, ended, tail_at, value_at}
 use Rattle.xml_tokenizer.proofs.ReferenceLaws.{reference_takes, reference_again}
 use Rattle.xml_tokenizer.proofs.Sought.{with_both, with_nothing, taken_past}
-use Rattle.xml_tokenizer.proofs.Steps.{bind_some, some_is, passed, chosen, nothing_taken, run_again, taken_all, past_stops}
-use Rattle.xml_tokenizer.proofs.Words.{after_takes, after_again}
+use Rattle.xml_tokenizer.proofs.Steps.{bind_some, some_is, passed, run_again, taken_all}
+use Rattle.xml_tokenizer.proofs.Words.{after_takes}
 
 -- ---- tests
 

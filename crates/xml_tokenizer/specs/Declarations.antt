@@ -1,5 +1,5 @@
 -- Reading an XML declaration (XML 1.0, productions 23 to 26, 32 and 80).
-use Rattle.std.specs.Prelude.{ℕ, Bool, true, false, ◌==◌, List, [], ◌∷◌, length, Option, None, Some, codes, if◌then◌else◌, encode_utf8_all}
+use Rattle.std.specs.Prelude.{ℕ, Bool, List, [], ◌∷◌, Option, None, Some, codes, if◌then◌else◌, encode_utf8_all}
 use Rattle.xmp_values.specs.Characters.{is_blank, is_name_char}
 use Rattle.xml_grammar.specs.Spelling.{is_digit}
 use Rattle.xml_tokenizer.specs.Runs.{taken, past, after, starts_with}

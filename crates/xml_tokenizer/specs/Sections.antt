@@ -1,5 +1,5 @@
 -- Reading comments, CDATA sections and instructions (XML 1.0, productions 15 to 21).
-use Rattle.std.specs.Prelude.{ℕ, Bool, false, not, ◌&&◌, List, [], ◌∷◌, Option, None, Some, codes, if◌then◌else◌, encode_utf8_all}
+use Rattle.std.specs.Prelude.{ℕ, Bool, false, List, [], ◌∷◌, Option, None, Some, codes, if◌then◌else◌, encode_utf8_all}
 use Rattle.std.specs.Str.{str_eq_ignore_ascii_case}
 use Rattle.xmp_values.specs.Characters.{is_blank}
 use Rattle.xml_grammar.specs.Spelling.{line_ends}

@@ -1,5 +1,5 @@
 -- Reading from left to right: a step gives what it read and the characters that are left, or nothing.
-use Rattle.std.specs.Prelude.{◌≡◌, ℕ, List, Option, None, Some, Result, Ok, Err}
+use Rattle.std.specs.Prelude.{◌≡◌, Option, None, Some, Result, Ok, Err}
 use Rattle.xml_tokenizer.specs.declared.stops.Miss.{Miss}
 use Rattle.xml_tokenizer.specs.declared.stops.Miss.TheVariants as misses
 

@@ -1,5 +1,5 @@
 -- Reading the value of an attribute (XML 1.0, production 10 and section 3.3.3).
-use Rattle.std.specs.Prelude.{ℕ, zero, suc, Bool, ◌||◌, ◌==◌, List, [], ◌∷◌, ◌++◌, Option, None, Some, codes, if◌then◌else◌, encode_utf8, encode_utf8_all}
+use Rattle.std.specs.Prelude.{ℕ, zero, suc, ◌||◌, ◌==◌, List, [], ◌∷◌, ◌++◌, Option, None, Some, codes, if◌then◌else◌, encode_utf8, encode_utf8_all}
 use Rattle.xmp_values.specs.Characters.{is_blank}
 use Rattle.xml_tokenizer.specs.Classes.{is_value}
 use Rattle.xml_tokenizer.specs.Runs.{taken, past, after, width, with_front}

@@ -1,4 +1,4 @@
-use Rattle.std.proofs.Common.{◌≡◌, ◌∙◌, ap, sym, subst, List, ℕ}
+use Rattle.std.proofs.Common.{◌∙◌, ap, sym, subst}
 use Rattle.std.specs.List.{prefix_len}
 use Rattle.xml_tokenizer.specs.Classes.{has, is_sure}
 use Rattle.xml_tokenizer.specs.Runs.{Passes}

@@ -1,5 +1,4 @@
-use Rattle.std.proofs.Common.{◌≡◌}
-use Rattle.xml_tokenizer.proofs.Seams.{seam, before}
+use Rattle.xml_tokenizer.proofs.Seams.{seam}
 use Rattle.xml_tokenizer.proofs.runs.run.Goals as goal
 
 pub split_at-requires : goal.split_at-requires

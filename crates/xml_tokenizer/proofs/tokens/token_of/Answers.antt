@@ -1,8 +1,7 @@
-use Rattle.std.proofs.Common.{rules, ◌≡◌, ◌∙◌, sym, ap, subst, None, List, ℕ}
+use Rattle.std.proofs.Common.{rules, ◌≡◌, ◌∙◌, sym, ap, subst, None}
 use Rattle.std.specs.Str.{chars, IsUtf8}
 use Rattle.xml_grammar.specs.declared.tokens.Mode.{Mode}
 use Rattle.xml_grammar.specs.Documents.{IsRule}
-use Rattle.xml_grammar.specs.Pieces.{HasPiece}
 use Rattle.xml_tokenizer.specs.Tokens.{token_at}
 use Rattle.xml_tokenizer.proofs.FaultLaws.{fails_by}
 use Rattle.xml_tokenizer.proofs.TokenLaws.{token_takes, token_none, behind_row}

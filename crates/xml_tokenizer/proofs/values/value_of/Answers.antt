@@ -1,7 +1,6 @@
 use Rattle.std.proofs.Common.{◌≡◌, [], ◌∷◌, Some, ◌∙◌, sym, ap, subst, List, ℕ}
 use Rattle.std.specs.Str.{chars}
 use Rattle.xml_tokenizer.specs.Runs.{after}
-use Rattle.xml_tokenizer.specs.Values.{value_at}
 use Rattle.xml_tokenizer.proofs.Tails.{value_plain}
 use Rattle.xml_tokenizer.proofs.values.value_of.Goals as goal
 
