@@ -17,7 +17,7 @@ use Rattle.xmp_cli.specs.Order.{file_limit, over_limit, not_built, followed}
 use Rattle.xmp_cli.specs.Answer.{get_answer, refused, shown, value_at}
 use Rattle.xmp_cli.specs.Run.{RunCall, Answers}
 
-same_fault : (f g : Fault) → Refused f ≡ Refused g → f ≡ g
+pub same_fault : (f g : Fault) → Refused f ≡ Refused g → f ≡ g
 same_fault f g e = cc
 
 -- the refusal of a length over what a plain file may have

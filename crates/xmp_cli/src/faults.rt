@@ -18,12 +18,14 @@ fn fault_at(rule: Rule, part: Part, at: u64) -> Fault
     }
 }
 
+/// FILE isn't there.
 pub fn no_file() -> Fault
     ensures { result ≡ no_file }
 {
     fault_at(Rule::NoFile, Part::File, 0)
 }
 
+/// A form that isn't built yet.
 pub fn not_built() -> Fault
     ensures { result ≡ not_built }
 {

@@ -6,7 +6,7 @@ ghost use Rattle.xmp_cli.specs.Commands.{Get};
 ghost use Rattle.xmp_cli.specs.Found.{text_named};
 ghost use Rattle.xmp_cli.specs.Order.{properties_of};
 ghost use Rattle.xmp_cli.specs.Steps.{Gives, GivesMembers, GivesValue};
-ghost use Rattle.xmp_cli.specs.Run.{RunCall};
+ghost use Rattle.xmp_cli.specs.Run.{RunCall, Refuses};
 
 use crate::faults::{no_file, no_such_place, not_built, too_long};
 use crate::found::text_named;
@@ -28,6 +28,7 @@ const DUBLIN_CORE: &str = "http://purl.org/dc/elements/1.1/";
 const PLAIN_LIMIT: u64 = 16_777_216;
 
 /// Runs `get`.
+#[tactic(auto, using(crate::proofs::Refusals::absent_refuses, crate::proofs::Refusals::step_refuses))]
 pub fn get<D: Desk, O: Sink>(
     alloc: Global,
     desk: &mut D,
@@ -36,6 +37,7 @@ pub fn get<D: Desk, O: Sink>(
     path: &str,
 ) -> Status
     ensures call { RunCall (Some (Get file.now path.now)) (D.state desk.old) (D.state desk.new) (O.state out.old) (O.state out.new) result }
+    ensures refuses { Refuses (Some (Get file.now path.now)) result }
 {
     let bytes = match read_all(alloc, desk, file, PLAIN_LIMIT) {
         Ok(bytes) => bytes,
