@@ -13,6 +13,7 @@ use xmp_values::Rule;
 pub enum JpegStop {
     /// The first broken rule, of 10 to 14, with its place in the file.
     Fault(Rule, u64),
+    /// Memory was wanted, and there was none.
     Memory,
 }
 
@@ -48,7 +49,7 @@ pub fn take(
 }
 
 impl Regions {
-    /// The regions of a file in memory.
+    /// The regions of a file in memory, which begins FF D8, or its first fault (ISO 10918-1, B.1.1).
     pub fn cut(alloc: Global, bytes: &[u8]) -> Result<Regions, JpegStop>
         requires { BeginsJpeg bytes.now }
         ensures answer { CutAnswer bytes.now result }

@@ -18,7 +18,9 @@ use xmp_values::Rule;
 pub enum CutStop {
     /// The first broken rule, of 10 to 14, with its place in the file.
     Fault(Rule, u64),
+    /// A call of the device failed, and was counted.
     Device,
+    /// Memory was wanted, and there was none.
     Memory,
 }
 

@@ -47,6 +47,7 @@ impl Regions {
         self.found.len()
     }
 
+    /// What region `i` is to metadata, by its marker and the beginning of its payload.
     pub fn kind(&self, i: usize) -> RegionKind
         requires { i < length self.now }
         ensures { option_map (λ r. r.kind) (slice_get self.now i) ≡ Some result }
@@ -54,7 +55,7 @@ impl Regions {
         self.found[i].kind
     }
 
-    /// The whole region, from its first FF byte on.
+    /// The whole of region `i`, from its first FF byte on, by places in the file.
     pub fn range(&self, i: usize) -> FileSpan
         requires { i < length self.now }
         ensures { option_map (λ r. r.range) (slice_get self.now i) ≡ Some result }
@@ -66,7 +67,7 @@ impl Regions {
         }
     }
 
-    /// The bytes behind the length. Empty for a marker without length and for the tail.
+    /// The bytes of region `i` behind its length, by places in the file. Empty for a marker without length and for the tail.
     pub fn payload(&self, i: usize) -> FileSpan
         requires { i < length self.now }
         ensures { option_map (λ r. r.payload) (slice_get self.now i) ≡ Some result }
