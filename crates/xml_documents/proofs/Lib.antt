@@ -4,3 +4,8 @@ pub mod Starts
 pub mod Walks
 pub mod Documents
 pub mod Faults
+pub mod Scans
+pub mod Tagging
+pub mod Stepping
+pub mod Hinting
+pub mod Advancing

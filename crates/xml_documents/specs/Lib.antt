@@ -3,3 +3,8 @@ pub mod Bounds
 pub mod Kept
 pub mod Building
 pub mod Document
+pub mod Tagging
+pub mod Steps
+pub mod Answering
+pub mod Documents
+pub mod Reading

@@ -6,13 +6,24 @@
 #![tactic(auto)]
 
 mod builder;
+mod contents;
+mod hints;
 mod pending;
+mod reading;
 mod scopes;
 mod stack;
+mod steps;
 mod stops;
+mod tags;
 
 pub use builder::{Builder, Frame};
+pub use contents::Doc;
 pub use pending::Pending;
+pub use reading::read;
 pub use scopes::Declared;
 pub use stack::Stack;
 pub use stops::XmlStop;
+pub use tags::{Parts, Tagged};
+
+#[cfg(test)]
+mod tests;

@@ -1,11 +1,15 @@
 //! The declarations of a tag.
 
 ghost use Rattle.std.specs.Prelude.{◌≡◌, [], ◌∷◌, ◌++◌, IfOk};
-ghost use Rattle.xml_grammar.specs.Scopes.{same_prefix};
+ghost use Rattle.std.specs.Option.{option_copied};
+ghost use Rattle.std.specs.List.{list_any, filter_map};
+ghost use Rattle.xml_grammar.specs.Scopes.{same_prefix, bound_to, is_reserved, is_misbound_to, is_misbound};
+ghost use Rattle.xml_grammar.specs.Trees.{hint_of};
+ghost use Rattle.xml_documents.specs.Bounds.{bindings_in};
 
 use std::alloc::Global;
 use std::marker::Model;
-use xmp_values::{Memory, Sequence, Text};
+use xmp_values::{Bytes, Hint, Memory, Sequence, Text};
 
 /// A prefix, or none for the default namespace, and what is bound to it.
 #[derive(Drop)]
@@ -51,6 +55,76 @@ impl<'p> Declared<'p> {
         list.push(Bound { prefix, space })?;
         Ok(Declared { list })
     }
+
+    /// What is bound to a prefix.
+    pub fn bound_to(&self, prefix: &Option<Text<'_>>) -> Option<&Text<'p>>
+        ensures { option_copied result ≡ bound_to self.now prefix.now }
+    {
+        space_in(self.list.as_slice(), prefix)
+    }
+
+    /// Whether one of them isn't allowed.
+    pub fn has_misbound(&self) -> bool
+        ensures { result ≡ list_any is_misbound self.now }
+    {
+        any_misbound(self.list.as_slice())
+    }
+
+    /// The hints that they are.
+    pub fn hints(&self, alloc: Global) -> Result<Sequence<Hint>, Memory>
+        ensures { IfOk result (λ hs. hs ≡ filter_map hint_of self.now) }
+    {
+        hints_in(alloc, self.list.as_slice())
+    }
+}
+
+fn space_in<'a, 'p>(list: &'a [Bound<'p>], prefix: &Option<Text<'_>>) -> Option<&'a Text<'p>>
+    ensures { option_copied result ≡ bound_to (bindings_in list.now) prefix.now }
+{
+    for bound in list {
+        if same_prefix(&bound.prefix, prefix) {
+            return Some(&bound.space);
+        }
+    }
+    None
+}
+
+fn any_misbound(list: &[Bound<'_>]) -> bool
+    ensures { result ≡ list_any is_misbound (bindings_in list.now) }
+{
+    for bound in list {
+        if is_misbound(&bound.prefix, bound.space.bytes()) {
+            return true;
+        }
+    }
+    false
+}
+
+fn hints_in(alloc: Global, list: &[Bound<'_>]) -> Result<Sequence<Hint>, Memory>
+    ensures { IfOk result (λ hs. hs ≡ filter_map hint_of (bindings_in list.now)) }
+{
+    let mut hints = Sequence::new(alloc);
+    for bound in list {
+        hints = with_hint(alloc, hints, bound)?;
+    }
+    Ok(hints)
+}
+
+fn with_hint(
+    alloc: Global,
+    hints: Sequence<Hint>,
+    bound: &Bound<'_>,
+) -> Result<Sequence<Hint>, Memory>
+    ensures { IfOk result (λ hs. hs ≡ hints ++ filter_map hint_of (bindings_in (bound.now ∷ []))) }
+{
+    let mut more = hints;
+    if let Some(prefix) = &bound.prefix {
+        more.push(Hint {
+            space: Bytes::from_slice(alloc, bound.space.bytes())?,
+            prefix: Bytes::from_slice(alloc, prefix.bytes())?,
+        })?;
+    }
+    Ok(more)
 }
 
 /// Whether two prefixes are the same.
@@ -61,5 +135,33 @@ pub fn same_prefix(one: &Option<Text<'_>>, other: &Option<Text<'_>>) -> bool
         (None, None) => true,
         (Some(p), Some(q)) => p.bytes() == q.bytes(),
         _ => false,
+    }
+}
+
+/// A namespace that belongs to a prefix of its own.
+#[tactic(auto, unfolding(xml_grammar::specs::Scopes::xml_space, xmp_values::specs::Hints::xmlns_space))]
+fn is_reserved(space: &[u8]) -> bool
+    ensures { result ≡ is_reserved space.now }
+{
+    space == b"http://www.w3.org/XML/1998/namespace".as_slice()
+        || space == b"http://www.w3.org/2000/xmlns/".as_slice()
+}
+
+/// Whether a declaration isn't allowed.
+#[tactic(auto, unfolding(xml_grammar::specs::Scopes::xml_space))]
+fn is_misbound(prefix: &Option<Text<'_>>, space: &[u8]) -> bool
+    ensures { result ≡ is_misbound_to prefix.now space.now }
+{
+    match prefix {
+        None => is_reserved(space),
+        Some(prefix) => {
+            if prefix.bytes() == b"xmlns".as_slice() {
+                true
+            } else if prefix.bytes() == b"xml".as_slice() {
+                space != b"http://www.w3.org/XML/1998/namespace".as_slice()
+            } else {
+                is_reserved(space) || space == b"".as_slice()
+            }
+        }
     }
 }

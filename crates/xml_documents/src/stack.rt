@@ -1,6 +1,7 @@
 //! A stack.
 
-ghost use Rattle.std.specs.Prelude.{◌≡◌, [], ◌∷◌, length, MatchOption, OnOk, OnErr};
+ghost use Rattle.std.specs.Prelude.{◌≡◌, [], ◌∷◌, length, slice_get, MatchOption, OnOk, OnErr};
+ghost use Rattle.std.specs.Option.{option_copied};
 
 use std::alloc::Global;
 use std::marker::Model;
@@ -45,6 +46,16 @@ impl<T: Drop> Stack<T> {
         ensures { result ≡ is_nil self.now }
     {
         self.items.len() == 0
+    }
+
+    /// The item at a depth, of which the top is 0.
+    pub fn get(&self, depth: usize) -> Option<&T>
+        ensures { option_copied result ≡ slice_get self.now depth }
+    {
+        if depth >= self.items.len() {
+            return None;
+        }
+        self.items.get(self.items.len() - 1 - depth)
     }
 
     pub fn push(&mut self, item: T) -> Result<(), Memory>

@@ -1,0 +1,15 @@
+-- What a function of the reader returned, beside what reading gives.
+use Rattle.std.specs.Prelude.{◌≡◌, Result, Ok, Err}
+use Rattle.xml_documents.specs.declared.builder.Builder.{Builder}
+use Rattle.xml_documents.specs.declared.stops.XmlStop.{XmlStop}
+use Rattle.xml_documents.specs.declared.stops.XmlStop.TheVariants as stops
+use Rattle.xml_documents.specs.Document.{Fault}
+
+abbrev pub Fails : {Y : Type 0} → XmlStop → Result Y Fault → Type 0
+Fails stops.Memory read = Unit {0}
+Fails (stops.Fault r at) read = read ≡ Err (r, at)
+
+-- it is what reading gives, unless memory ran out
+abbrev pub Gives : {Y : Type 0} → Result Y XmlStop → Result Y Fault → Type 0
+Gives (Ok x) read = read ≡ Ok x
+Gives (Err e) read = Fails e read

@@ -1,0 +1,45 @@
+//! The first declaration of each namespace.
+
+ghost use Rattle.std.specs.Prelude.{◌≡◌, ◌++◌, ◌∷◌, [], IfOk, if◌then◌else◌};
+ghost use Rattle.xml_grammar.specs.Trees.{first_hints};
+
+use std::alloc::Global;
+use xmp_values::{Bytes, Hint, Memory, NameSet, Sequence};
+
+fn copied(alloc: Global, hint: &Hint) -> Result<Hint, Memory>
+    ensures { IfOk result (λ h. h ≡ hint.now) }
+{
+    Ok(Hint {
+        space: Bytes::from_slice(alloc, hint.space.as_slice())?,
+        prefix: Bytes::from_slice(alloc, hint.prefix.as_slice())?,
+    })
+}
+
+fn with_if(
+    alloc: Global,
+    hints: Sequence<Hint>,
+    is_new: bool,
+    hint: &Hint,
+) -> Result<Sequence<Hint>, Memory>
+    ensures { IfOk result (λ hs. hs ≡ (if is_new then hints ++ hint.now ∷ [] else hints)) }
+{
+    let mut more = hints;
+    if is_new {
+        more.push(copied(alloc, hint)?)?;
+    }
+    Ok(more)
+}
+
+/// The first hint of each namespace, in their order. The time grows as n log n with their number.
+pub fn first_hints(alloc: Global, all: &[Hint]) -> Result<Sequence<Hint>, Memory>
+    ensures { IfOk result (λ hs. hs ≡ first_hints all.now) }
+{
+    let mut seen = NameSet::new(alloc);
+    let mut firsts = Sequence::new(alloc);
+    for hint in all {
+        let space = hint.space.as_slice();
+        let is_new = seen.insert(space, space)?;
+        firsts = with_if(alloc, firsts, is_new, hint)?;
+    }
+    Ok(firsts)
+}

@@ -1,0 +1,206 @@
+//! What each kind of token does.
+
+ghost use Rattle.std.specs.Prelude.{◌≡◌, ◌≤◌, ◌<◌, ◌+◌, ◌^◌, length, is_some, encode_utf8, IfOk};
+ghost use Rattle.std.specs.List.{prefix_len};
+ghost use Rattle.xmp_values.specs.Characters as characters;
+ghost use Rattle.xml_grammar.specs.Pieces.{Declaration};
+ghost use Rattle.xml_grammar.specs.Scopes.{same_qname};
+ghost use Rattle.xml_grammar.specs.Nesting.{is_foreign};
+ghost use Rattle.xml_documents.specs.Answering.{Gives};
+ghost use Rattle.xml_documents.specs.Building.{is_nil};
+ghost use Rattle.xml_documents.specs.Document.{run_step};
+ghost use Rattle.xml_documents.specs.Steps.{declaration_step, text_step, end_step, tag_rule, begun, tagged_step, start_step, step_of, with_run};
+
+use crate::builder::{Builder, add_text, begin, end, end_if, pass};
+use crate::pending::char_text;
+use crate::scopes::same_prefix;
+use crate::stops::XmlStop;
+use crate::tags::{Tagged, read_tag};
+use std::alloc::Global;
+use xml_grammar::{QName, Tag, Token};
+use xmp_values::{Memory, Rule, Text, is_blank};
+
+/// The greatest depth of an element.
+const DEEPEST: usize = 100;
+
+/// Whether another encoding than UTF-8 is named.
+fn is_foreign(encoding: &Option<Text<'_>>) -> bool
+    ensures { result ≡ is_foreign (Declaration encoding.now) }
+{
+    match encoding {
+        Some(name) => !name.bytes().eq_ignore_ascii_case(b"utf-8".as_slice()),
+        None => false,
+    }
+}
+
+fn declaration_step<'p>(
+    builder: Builder<'p>,
+    at: u64,
+    encoding: &Option<Text<'p>>,
+) -> Result<Builder<'p>, XmlStop>
+    ensures { Gives result (declaration_step builder.entry at encoding.now) }
+{
+    if is_foreign(encoding) {
+        return Err(XmlStop::Fault(Rule::Encoding, at));
+    }
+    Ok(pass(builder))
+}
+
+/// Text that may not stand outside the root.
+fn text_step<'p>(
+    alloc: Global,
+    builder: Builder<'p>,
+    at: u64,
+    text: Text<'p>,
+) -> Result<Builder<'p>, XmlStop>
+    ensures { Gives result (text_step builder.entry at text.entry) }
+{
+    if builder.outer.is_empty() {
+        return Err(XmlStop::Fault(Rule::OutsideRoot, at));
+    }
+    Ok(add_text(alloc, builder, text)?)
+}
+
+fn reference_step<'p>(
+    alloc: Global,
+    builder: Builder<'p>,
+    at: u64,
+    c: char,
+) -> Result<Builder<'p>, XmlStop>
+    ensures { Gives result (text_step builder.entry at (encode_utf8 c)) }
+{
+    let text = char_text(alloc, c)?;
+    text_step(alloc, builder, at, text)
+}
+
+fn same_qname(one: &QName<'_>, other: &QName<'_>) -> bool
+    ensures { result ≡ same_qname one.now other.now }
+{
+    same_prefix(&one.prefix, &other.prefix) && one.local.bytes() == other.local.bytes()
+}
+
+fn end_step<'p>(builder: Builder<'p>, at: u64, name: &QName<'p>) -> Result<Builder<'p>, XmlStop>
+    ensures { Gives result (end_step builder.entry at name.now) }
+{
+    if builder.outer.is_empty() {
+        return Err(XmlStop::Fault(Rule::OutsideRoot, at));
+    }
+    if !same_qname(&builder.top.spelled, name) {
+        return Err(XmlStop::Fault(Rule::Mismatch, at));
+    }
+    Ok(end(builder)?)
+}
+
+/// The least rule that a tag breaks.
+fn tag_rule(builder: &Builder<'_>, tagged: &Tagged<'_>) -> Option<Rule>
+    ensures { result ≡ tag_rule (is_nil builder.now.outer) (is_some builder.now.root) (length builder.now.outer) tagged.now }
+{
+    if builder.outer.is_empty() && builder.root.is_some() {
+        Some(Rule::OutsideRoot)
+    } else if tagged.misbound {
+        Some(Rule::BadNamespace)
+    } else if tagged.unbound {
+        Some(Rule::UnboundPrefix)
+    } else if tagged.twice {
+        Some(Rule::TwiceAttribute)
+    } else if builder.outer.len() >= DEEPEST {
+        Some(Rule::TooDeep)
+    } else {
+        None
+    }
+}
+
+fn begun<'p>(builder: Builder<'p>, tagged: Tagged<'p>) -> Result<Builder<'p>, Memory>
+    ensures { IfOk result (λ b. b ≡ begun builder.entry tagged.entry) }
+{
+    let Tagged {
+        frame,
+        hints,
+        misbound: _,
+        unbound: _,
+        twice: _,
+        empty,
+    } = tagged;
+    let opened = begin(builder, frame, hints)?;
+    end_if(empty, opened)
+}
+
+fn tagged_step<'p>(
+    builder: Builder<'p>,
+    at: u64,
+    tagged: Tagged<'p>,
+) -> Result<Builder<'p>, XmlStop>
+    ensures { Gives result (tagged_step builder.entry at tagged.entry) }
+{
+    if let Some(rule) = tag_rule(&builder, &tagged) {
+        return Err(XmlStop::Fault(rule, at));
+    }
+    Ok(begun(builder, tagged)?)
+}
+
+fn start_step<'p>(
+    alloc: Global,
+    builder: Builder<'p>,
+    at: u64,
+    tag: Tag<'p>,
+) -> Result<Builder<'p>, XmlStop>
+    ensures { Gives result (start_step builder.entry at tag.entry) }
+{
+    let tagged = read_tag(alloc, &builder, at, tag)?;
+    tagged_step(builder, at, tagged)
+}
+
+fn is_blank_byte(b: u8) -> bool
+    ensures { result ≡ characters.is_blank b }
+{
+    is_blank(char::from(b))
+}
+
+/// How many blanks stand at the front.
+fn blank_run(bytes: &[u8]) -> usize
+    ensures run { result ≡ prefix_len characters.is_blank bytes.now }
+    ensures within { result ≤ length bytes.now }
+{
+    bytes.iter().take_while(|b| is_blank_byte(**b)).count()
+}
+
+/// Characters that stand for themselves.
+fn run_step<'p>(
+    alloc: Global,
+    builder: Builder<'p>,
+    at: u64,
+    run: &'p [u8],
+) -> Result<Builder<'p>, XmlStop>
+    requires { at + length run.now < 2 ^ 64 }
+    ensures { Gives result (run_step builder.entry at run.now) }
+{
+    let blank = blank_run(run);
+    if builder.outer.is_empty() && blank != run.len() {
+        return Err(XmlStop::Fault(Rule::OutsideRoot, at + blank as u64));
+    }
+    Ok(add_text(alloc, builder, Text::raw(run))?)
+}
+
+/// One token further. The bytes are those on which the token stands.
+pub fn token_step<'p>(
+    alloc: Global,
+    builder: Builder<'p>,
+    at: u64,
+    token: Token<'p>,
+    bytes: &'p [u8],
+) -> Result<Builder<'p>, XmlStop>
+    requires { at + length bytes.now < 2 ^ 64 }
+    ensures { Gives result (step_of builder.entry at (with_run token.entry bytes.now)) }
+{
+    match token {
+        Token::Declaration(encoding) => declaration_step(builder, at, &encoding),
+        Token::Instruction => Ok(pass(builder)),
+        Token::Comment => Ok(pass(builder)),
+        Token::Cdata(text) => text_step(alloc, builder, at, text),
+        Token::Start(tag) => start_step(alloc, builder, at, tag),
+        Token::End(name) => end_step(builder, at, &name),
+        Token::Reference(c) => reference_step(alloc, builder, at, c),
+        Token::LineEnd => Ok(add_text(alloc, builder, Text::raw(b"\n".as_slice()))?),
+        Token::Run(_) => run_step(alloc, builder, at, bytes),
+    }
+}
