@@ -16,4 +16,5 @@ pub mod SectionLaws
 pub mod DeclarationLaws
 pub mod TokenLaws
 pub mod FaultLaws
+pub mod Found
 pub mod Sure

@@ -55,15 +55,15 @@ found_takes word front back c cs x None is short found e ih =
     regroup : (a b c d : List ℕ) → a ++ ((b ++ c) ++ d) ≡ (a ++ b) ++ (c ++ d)
     regroup a b c d = simp append_assoc
 
-up_to_takes : (word front back : List ℕ) → word ≡ front ++ back → length front < length word → (cs : List ℕ) (x : List ℕ × List ℕ) → up_to word cs ≡ Some x → TakesUpTo word front cs x
+pub up_to_takes : (word front back : List ℕ) → word ≡ front ++ back → length front < length word → (cs : List ℕ) (x : List ℕ × List ℕ) → up_to word cs ≡ Some x → TakesUpTo word front cs x
 up_to_takes word front back is short [] x e = absurd cc
 up_to_takes word front back is short (c ∷ cs) x e = found_takes word front back c cs x (after word (c ∷ cs)) is short refl e (λ y h. up_to_takes word front back is short cs y h)
 
 -- no word begins before the end of what is inside
-abbrev Ends : List ℕ → List ℕ → List ℕ → Type 0
+abbrev pub Ends : List ℕ → List ℕ → List ℕ → Type 0
 Ends word inside rest = (a more y : List ℕ) → inside ≡ a ++ more → word ++ y ≡ more ++ (word ++ rest) → more ≡ []
 
-up_to_again : (w : ℕ) (ws inside rest : List ℕ) → Ends (w ∷ ws) inside rest → (more a : List ℕ) → inside ≡ a ++ more → AreChars more → up_to (w ∷ ws) (more ++ ((w ∷ ws) ++ rest)) ≡ Some (more, rest)
+pub up_to_again : (w : ℕ) (ws inside rest : List ℕ) → Ends (w ∷ ws) inside rest → (more a : List ℕ) → inside ≡ a ++ more → AreChars more → up_to (w ∷ ws) (more ++ ((w ∷ ws) ++ rest)) ≡ Some (more, rest)
 up_to_again w ws inside rest ends [] a is chars = ap (λ (o : Option (List ℕ)). found_or w o (up_to (w ∷ ws) (ws ++ rest))) (after_again (w ∷ ws) rest)
 up_to_again w ws inside rest ends (c ∷ more) a is chars =
     let k = both (is_char c) (list_all is_char more) chars in

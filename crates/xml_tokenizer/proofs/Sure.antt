@@ -39,6 +39,7 @@ unfolding is_plain is_value is_other
 wide_has classes.NameChar c w low h = absurd cc
 wide_has classes.Blank c w low h = absurd cc
 wide_has classes.Decimal c w low h = absurd cc
+wide_has classes.Char c w low h = h
 wide_has classes.Plain c w low h = grind (arith, nat_tests)
 wide_has (classes.Value quote) c w low h = grind (arith, nat_tests)
 wide_has (classes.Other stop) c w low h = grind (arith, nat_tests)

@@ -3,7 +3,7 @@ use Rattle.std.specs.Prelude.{ℕ, Bool, true, false, nat_lt, if◌then◌else�
 use Rattle.xmp_values.specs.Characters.{is_blank, is_char, is_name_char}
 use Rattle.xml_grammar.specs.Spelling.{is_digit}
 use Rattle.xml_tokenizer.specs.declared.classes.Class.{Class}
-use Rattle.xml_tokenizer.specs.declared.classes.Class.TheVariants.{NameChar, Blank, Decimal, Plain, Value, Other}
+use Rattle.xml_tokenizer.specs.declared.classes.Class.TheVariants.{NameChar, Blank, Decimal, Char, Plain, Value, Other}
 
 -- a Char that stands for itself wherever it stands
 unfoldable pub is_plain : ℕ → Bool
@@ -21,6 +21,7 @@ abbrev pub has : Class → ℕ → Bool
 has NameChar = is_name_char
 has Blank = is_blank
 has Decimal = is_digit 10
+has Char = is_char
 has Plain = is_plain
 has (Value quote) = is_value quote
 has (Other stop) = is_other stop
@@ -30,6 +31,7 @@ abbrev pub is_wide : Class → Bool
 is_wide NameChar = false
 is_wide Blank = false
 is_wide Decimal = false
+is_wide Char = true
 is_wide Plain = true
 is_wide (Value quote) = nat_lt quote 128
 is_wide (Other stop) = nat_lt stop 128

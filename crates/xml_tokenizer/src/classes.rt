@@ -11,6 +11,7 @@ pub enum Class {
     NameChar,
     Blank,
     Decimal,
+    Char,
     /// Chars that stand for themselves wherever they stand.
     Plain,
     /// Chars that stand for themselves between two such quotes.
@@ -47,6 +48,7 @@ pub fn has(class: Class, c: char) -> bool
         Class::NameChar => is_name_char(c),
         Class::Blank => is_blank(c),
         Class::Decimal => c.is_digit(10),
+        Class::Char => is_char(c),
         Class::Plain => is_plain(c),
         Class::Value(quote) => is_value(quote, c),
         Class::Other(stop) => is_other(stop, c),
@@ -59,7 +61,7 @@ fn is_wide(class: Class) -> bool
 {
     match class {
         Class::NameChar | Class::Blank | Class::Decimal => false,
-        Class::Plain => true,
+        Class::Char | Class::Plain => true,
         Class::Value(quote) => quote < '\u{80}',
         Class::Other(stop) => stop < '\u{80}',
     }

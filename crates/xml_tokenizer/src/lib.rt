@@ -2,7 +2,8 @@
 //!
 //! `token_of` reads exactly where a piece stands, and else names the rule. Text that needs no
 //! change is a slice of the input. It stands on `xml_grammar`, which says how each piece is
-//! spelled, on `xmp_values` and `simdutf8`. XML 1.0 (fifth edition), Namespaces in XML 1.0.
+//! spelled, on `xmp_values`, `simdutf8` and `memchr`. XML 1.0 (fifth edition), Namespaces in
+//! XML 1.0.
 #![tactic(auto)]
 
 mod classes;

@@ -1,7 +1,7 @@
 //! Runs of characters, and given words.
 
-ghost use Rattle.std.specs.Prelude.{◌≡◌, ◌<◌, ◌≤◌, [], ◌∷◌, ◌++◌, true, length, drop, Some, None, MatchOption, IfNone, IfSome, encode_utf8, encode_utf8_all};
-ghost use Rattle.std.specs.List.{prefix_len};
+ghost use Rattle.std.specs.Prelude.{◌≡◌, ◌<◌, ◌≤◌, [], ◌∷◌, ◌++◌, true, length, Some, None, MatchOption, IfNone, IfSome, encode_utf8, encode_utf8_all};
+ghost use Rattle.std.specs.List.{list_all, prefix_len};
 ghost use Rattle.std.specs.Str.{chars};
 ghost use Rattle.xmp_values.specs.Characters.{is_char};
 ghost use Rattle.xml_tokenizer.specs.Classes as classes;
@@ -10,6 +10,7 @@ ghost use Rattle.xml_tokenizer.specs.Steps.{Gives};
 
 use crate::classes::{Class, has, is_sure};
 use crate::stops::Miss;
+use memchr::memmem;
 
 /// The first character, and the text after it.
 pub fn next_char(text: &str) -> Option<(char, &str)>
@@ -132,27 +133,28 @@ pub fn after_char(c: char, text: &str) -> Result<&str, Miss>
     }
 }
 
-/// The Chars up to a word, which begins with `first`, and the text after the word.
-pub fn up_to<'p>(first: char, word: &str, text: &'p str) -> Result<(&'p str, &'p str), Miss>
+/// Whether the text is of Chars alone.
+fn are_chars(text: &str) -> bool
+    ensures { result ≡ list_all is_char (chars text.now) }
+{
+    past_run(Class::Char, text).is_empty()
+}
+
+/// The Chars up to a word, and the text after the word.
+pub fn up_to<'p>(word: &str, text: &'p str) -> Result<(&'p str, &'p str), Miss>
     requires ascii { is_ascii word.now ≡ true }
-    requires first { first ∷ drop 1 word.now ≡ word.now }
-    requires char { is_char first ≡ true }
+    requires some { 0 < length word.now }
     ensures { Gives (λ x. (chars x.0.now, chars x.1.now)) result (up_to word.now (chars text.now)) }
 {
-    let mut rest = text;
-    for _ in 0..text.len() {
-        let stop = past_run(Class::Other(first), rest);
-        if let Some(behind) = behind(word, stop) {
-            let (inside, _) = text.split_at(text.len() - stop.len());
-            return Ok((inside, behind));
-        }
-        let Some((c, next)) = next_char(stop) else {
-            return Err(Miss::Nothing);
-        };
-        if c != first {
-            return Err(Miss::Nothing);
-        }
-        rest = next;
+    let Some(at) = memmem::find(text.as_bytes(), word.as_bytes()) else {
+        return Err(Miss::Nothing);
+    };
+    let (inside, stop) = text.split_at(at);
+    if !are_chars(inside) {
+        return Err(Miss::Nothing);
     }
-    Err(Miss::Nothing)
+    match behind(word, stop) {
+        Some(rest) => Ok((inside, rest)),
+        None => Err(Miss::Nothing),
+    }
 }

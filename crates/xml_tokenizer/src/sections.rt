@@ -17,7 +17,7 @@ use xmp_values::{Text, is_blank};
 pub fn past_comment(text: &str) -> Result<&str, Miss>
     ensures { Gives (λ x. chars x.now) result (comment_at (chars text.now)) }
 {
-    let (_, rest) = up_to('-', "--", text)?;
+    let (_, rest) = up_to("--", text)?;
     after(">", rest)
 }
 
@@ -26,7 +26,7 @@ pub fn past_comment(text: &str) -> Result<&str, Miss>
 pub fn cdata_of(alloc: Global, text: &str) -> Result<(Text<'_>, &str), Miss>
     ensures { Gives (λ x. (x.0, chars x.1.now)) result (cdata_at (chars text.now)) }
 {
-    let (inside, rest) = up_to(']', "]]>", text)?;
+    let (inside, rest) = up_to("]]>", text)?;
     let lines = lines_of(alloc, inside)?;
     Ok((lines, rest))
 }
@@ -55,6 +55,6 @@ pub fn past_instruction(text: &str) -> Result<&str, Miss>
     if !starts_blank(rest) {
         return Err(Miss::Nothing);
     }
-    let (_, end) = up_to('?', "?>", rest)?;
+    let (_, end) = up_to("?>", rest)?;
     Ok(end)
 }

@@ -1,51 +1,32 @@
-use Rattle.std.proofs.Common.{◌≡◌, ◌≤◌, ◌∙◌, None, true, length, drop, ap, arith}
-use Rattle.std.specs.Prelude.{encode_utf8_all}
-use Rattle.std.proofs.lemmas.List.{nil_from_length, length-append}
-use Rattle.std.proofs.lemmas.Str.{chars-nil, IsUtf8-past_char}
-use Rattle.std.specs.Str.{chars}
-use Rattle.xmp_values.specs.Characters.{is_char}
-use Rattle.xml_tokenizer.specs.declared.classes.Class.TheVariants.{Other}
-use Rattle.xml_tokenizer.specs.Classes.{has}
-use Rattle.xml_tokenizer.specs.Runs.{after, taken}
-use Rattle.xml_tokenizer.proofs.Parts.{none_part, none_here}
-use Rattle.xml_tokenizer.proofs.Seams.{seam}
-use Rattle.xml_tokenizer.proofs.Sought.{sought_none, sought_run, sought_char, sought_found, sought_end, sought_stuck}
+use Rattle.std.proofs.Common.{◌∙◌, sym, subst}
+use Rattle.memchr.specs.Find.{FindsNeedle}
+use Rattle.xml_tokenizer.proofs.Found.{finds_same, occurs_boundary, cut_of, cut_stands, sought_nowhere, sought_stuck, sought_found}
 use Rattle.xml_tokenizer.proofs.runs.up_to.Goals as goal
 
-pub loop-init : goal.loop-init
-loop-init c = record { text = c.utf8.text; sought = sought_none c.args.word.now c.args.text.now; fuel = omega arith }
+pub returns-in_default : goal.returns-in_default
+returns-in_default c =
+    let f = finds_same c.as_bytes.result.now c.as_bytes-2.result.now c.args.text.now c.args.word.now c.find.result c.as_bytes.ensures.value c.as_bytes-2.ensures.value c.find.ensures in
+    sought_nowhere c.args.word.now c.args.text.now c.utf8.text c.requires.ascii c.requires.some (subst (FindsNeedle c.args.text.now c.args.word.now 0) c.in_default.is f)
 
 pub split_at-requires : goal.split_at-requires
 split_at-requires c =
-    let w = sought_run c.args.word.now c.args.text.now c.loop.rest.now c.args.first (drop 1 c.args.word.now) c.past_run-stop.result.now c.requires.first c.loop.invariant.sought c.loop.invariant.text c.past_run-stop.utf8 c.past_run-stop.ensures.parts c.past_run-stop.ensures.rest in
-    seam c.args.text.now w.front c.past_run-stop.result.now w.parts c.past_run-stop.utf8
+    let f = subst (FindsNeedle c.args.text.now c.args.word.now 0) c.in-Some.is (finds_same c.as_bytes.result.now c.as_bytes-2.result.now c.args.text.now c.args.word.now c.find.result c.as_bytes.ensures.value c.as_bytes-2.ensures.value c.find.ensures) in
+    occurs_boundary c.args.text.now c.args.word.now c.in-Some.at c.requires.ascii c.requires.some f.1
 
-pub returns-in-Some : goal.returns-in-Some
-returns-in-Some c =
-    let w = sought_run c.args.word.now c.args.text.now c.loop.rest.now c.args.first (drop 1 c.args.word.now) c.past_run-stop.result.now c.requires.first c.loop.invariant.sought c.loop.invariant.text c.past_run-stop.utf8 c.past_run-stop.ensures.parts c.past_run-stop.ensures.rest in
-    sought_found c.args.word.now c.args.text.now c.past_run-stop.result.now c.args.first (drop 1 c.args.word.now) _ _ c.requires.first w c.split_at.ensures.front c.in-Some.ensures
+pub returns-then-not-are_chars : goal.returns-then-not-are_chars
+returns-then-not-are_chars c =
+    let f = subst (FindsNeedle c.args.text.now c.args.word.now 0) c.in-Some.is (finds_same c.as_bytes.result.now c.as_bytes-2.result.now c.args.text.now c.args.word.now c.find.result c.as_bytes.ensures.value c.as_bytes-2.ensures.value c.find.ensures) in
+    let k = cut_of c.args.word.now c.args.text.now c.split_at.result.0.now c.split_at.result.1.now c.in-Some.at c.utf8.text c.requires.ascii c.requires.some f.0 f.1 c.split_at.ensures.front c.split_at.ensures.back in
+    sought_stuck c.args.word.now c.args.text.now c.split_at.result.0.now c.split_at.result.1.now _ c.utf8.text k.utf8 c.requires.ascii c.requires.some k.parts k.first (sym c.are_chars.ensures ∙ c.if-not-are_chars.true)
 
-pub returns : goal.returns
-returns c = sought_end c.args.word.now c.args.text.now c.loop.rest.now c.loop.invariant.sought (ap chars (nil_from_length c.loop.rest.now (omega (arith, c.loop.invariant.fuel))) ∙ chars-nil)
+pub returns-in-Some-behind : goal.returns-in-Some-behind
+returns-in-Some-behind c =
+    let f = subst (FindsNeedle c.args.text.now c.args.word.now 0) c.in-Some.is (finds_same c.as_bytes.result.now c.as_bytes-2.result.now c.args.text.now c.args.word.now c.find.result c.as_bytes.ensures.value c.as_bytes-2.ensures.value c.find.ensures) in
+    let k = cut_of c.args.word.now c.args.text.now c.split_at.result.0.now c.split_at.result.1.now c.in-Some.at c.utf8.text c.requires.ascii c.requires.some f.0 f.1 c.split_at.ensures.front c.split_at.ensures.back in
+    sought_found c.args.word.now c.args.text.now c.split_at.result.0.now c.split_at.result.1.now _ _ c.utf8.text k.utf8 c.requires.ascii c.requires.some k.parts k.first (sym c.are_chars.ensures ∙ c.if-not-are_chars.false) c.in-Some-behind.ensures
 
-pub loop-preserved : goal.loop-preserved
-loop-preserved c =
-    let w = sought_run c.args.word.now c.args.text.now c.loop.rest.now c.args.first (drop 1 c.args.word.now) c.past_run-stop.result.now c.requires.first c.loop.invariant.sought c.loop.invariant.text c.past_run-stop.utf8 c.past_run-stop.ensures.parts c.past_run-stop.ensures.rest in
-    let none = none_part c.behind.result (after c.args.word.now (chars c.past_run-stop.result.now) ≡ None) _ c.behind.ensures c.in_default.is in
-    let char : is_char c.in-Some-next_char.c ≡ true = ap is_char c.if-c-first.false ∙ c.requires.char in
-    let shorter : length c.past_run-stop.result.now ≤ length c.loop.rest.now = omega (arith, w.parts, ap length c.past_run-stop.ensures.parts, length-append (encode_utf8_all (taken (has (Other c.args.first)) (chars c.loop.rest.now))) c.past_run-stop.result.now) in
-    record {
-      text = IsUtf8-past_char c.past_run-stop.result.now c.in-Some-next_char.next.now c.in-Some-next_char.c c.past_run-stop.utf8 c.in-Some-next_char.ensures.some.0;
-      sought = sought_char c.args.word.now c.args.text.now c.past_run-stop.result.now c.in-Some-next_char.c c.in-Some-next_char.next.now w c.past_run-stop.utf8 c.in-Some-next_char.ensures.some.0 c.in-Some-next_char.ensures.some.1 none char;
-      fuel = omega (arith, shorter, c.in-Some-next_char.ensures.some.2, c.loop.invariant.fuel);
-    }
-
-pub returns-in_default-next_char : goal.returns-in_default-next_char
-returns-in_default-next_char c =
-    let w = sought_run c.args.word.now c.args.text.now c.loop.rest.now c.args.first (drop 1 c.args.word.now) c.past_run-stop.result.now c.requires.first c.loop.invariant.sought c.loop.invariant.text c.past_run-stop.utf8 c.past_run-stop.ensures.parts c.past_run-stop.ensures.rest in
-    sought_end c.args.word.now c.args.text.now c.past_run-stop.result.now w (none_here c.next_char.result _ c.next_char.ensures.none c.in_default-next_char.is)
-
-pub returns-then-c-first : goal.returns-then-c-first
-returns-then-c-first c =
-    let w = sought_run c.args.word.now c.args.text.now c.loop.rest.now c.args.first (drop 1 c.args.word.now) c.past_run-stop.result.now c.requires.first c.loop.invariant.sought c.loop.invariant.text c.past_run-stop.utf8 c.past_run-stop.ensures.parts c.past_run-stop.ensures.rest in
-    sought_stuck c.args.word.now c.args.text.now c.loop.rest.now c.past_run-stop.result.now c.args.first (drop 1 c.args.word.now) c.in-Some-next_char.c (chars c.in-Some-next_char.next.now) c.requires.first w c.past_run-stop.ensures.rest c.in-Some-next_char.ensures.some.1 c.if-c-first.true
+pub returns-in-None : goal.returns-in-None
+returns-in-None c =
+    let f = subst (FindsNeedle c.args.text.now c.args.word.now 0) c.in-Some.is (finds_same c.as_bytes.result.now c.as_bytes-2.result.now c.args.text.now c.args.word.now c.find.result c.as_bytes.ensures.value c.as_bytes-2.ensures.value c.find.ensures) in
+    let k = cut_of c.args.word.now c.args.text.now c.split_at.result.0.now c.split_at.result.1.now c.in-Some.at c.utf8.text c.requires.ascii c.requires.some f.0 f.1 c.split_at.ensures.front c.split_at.ensures.back in
+    absurd (cut_stands c.args.word.now c.args.text.now c.split_at.result.0.now c.split_at.result.1.now c.requires.ascii k c.in-None.ensures)
