@@ -4,7 +4,7 @@ use Rattle.std.specs.declared.option.Option.{Option}
 use Rattle.std.specs.declared.result.Result.{Result}
 use Rattle.std.specs.Option.{ok_or}
 use Rattle.xmp_values.specs.declared.faults.Fault.{Fault}
-use Rattle.xmp_xml.specs.Plain.{plain_of}
+use Rattle.plain_xml.specs.Plain.{plain_of}
 use Rattle.xmp_cli.specs.declared.status.Status.TheVariants.{Refused}
 use Rattle.xmp_cli.specs.Commands.{Command, Get}
 use Rattle.xmp_cli.specs.Order.{file_limit, over_limit, no_file, not_built, no_such_place, name_at, dc_name, value_of, followed}

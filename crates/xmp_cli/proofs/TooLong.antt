@@ -10,7 +10,7 @@ use Rattle.xmp_base.specs.declared.whole.ReadStop.{ReadStop}
 use Rattle.xmp_base.specs.declared.whole.ReadStop.TheVariants.{Absent, TooLarge}
 use Rattle.xmp_values.specs.declared.faults.Fault.{Fault}
 use Rattle.xmp_values.specs.declared.rules.Rule.TheVariants.{NoFile}
-use Rattle.xmp_xml.specs.Plain.{plain_of}
+use Rattle.plain_xml.specs.Plain.{plain_of}
 use Rattle.xmp_cli.specs.declared.status.Status.TheVariants.{Refused}
 use Rattle.xmp_cli.specs.Commands.{Get}
 use Rattle.xmp_cli.specs.Order.{file_limit, over_limit, not_built, followed}

@@ -15,8 +15,8 @@ use denote.Hole.Carrier.{out}
 use Rattle.xmp_tree.specs.Parts.{simple}
 use Rattle.xmp_tree.specs.Wf.{name_of, value_of as value_in}
 use Rattle.xmp_tree.proofs.Made.{name-member, value-member}
-use Rattle.xmp_xml.specs.Plain.{Property}
-use Rattle.xmp_xml.specs.PlainDocument.{named, dc_space}
+use Rattle.plain_xml.specs.Plain.{Property}
+use Rattle.plain_xml.specs.PlainDocument.{named, dc_space}
 use Rattle.xmp_rdf.specs.Plain.{property_member}
 use Rattle.xmp_cli.specs.Answer.{value_at}
 use Rattle.xmp_cli.specs.Found.{text_named, simple_text, same_name}

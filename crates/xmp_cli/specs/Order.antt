@@ -10,7 +10,7 @@ use Rattle.xmp_values.specs.declared.faults.Part.{Part}
 use Rattle.xmp_values.specs.declared.faults.Part.TheVariants.{File, Words}
 use Rattle.xmp_values.specs.declared.rules.Rule.{Rule}
 use Rattle.xmp_values.specs.declared.rules.Rule.TheVariants.{NoFile, FileLimit, NotBuilt, NoSuchPlace}
-use Rattle.xmp_xml.specs.Plain.{Property, plain_of, behind}
+use Rattle.plain_xml.specs.Plain.{Property, plain_of, behind}
 
 abbrev pub fault_at : Rule → Part → ℕ → Fault
 fault_at rule part at = record { rule = rule; place = record { part = part; at = at }; x = 0; y = 0 }

@@ -3,7 +3,7 @@ use Rattle.std.specs.Prelude.{◌≡◌, ℕ, List, ◌++◌, map, Option, Some,
 use Rattle.std.specs.declared.result.Result.{Result}
 use Rattle.xmp_values.specs.declared.faults.Fault.{Fault}
 use Rattle.xmp_tree.specs.declared.nested.Member.{Member}
-use Rattle.xmp_xml.specs.Plain.{Property}
+use Rattle.plain_xml.specs.Plain.{Property}
 use Rattle.xmp_rdf.specs.Plain.{property_member}
 use Rattle.xmp_cli.specs.Order.{no_such_place}
 use Rattle.xmp_cli.specs.declared.stop.Stop.{Stop}

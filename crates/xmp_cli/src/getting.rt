@@ -1,6 +1,6 @@
 //! `get FILE PATH`: the value at a path.
 ghost use Rattle.std.specs.Prelude.{◌≡◌, ◌++◌, IfOk, Some, codes};
-ghost use Rattle.xmp_xml.specs.PlainDocument.{named, dc_space};
+ghost use Rattle.plain_xml.specs.PlainDocument.{named, dc_space};
 ghost use Rattle.xmp_cli.specs.Answer.{value_at};
 ghost use Rattle.xmp_cli.specs.Commands.{Get};
 ghost use Rattle.xmp_cli.specs.Found.{text_named};
@@ -14,12 +14,12 @@ use crate::paths::dc_name;
 use crate::sending::send;
 use crate::status::Status;
 use crate::stop::Stop;
+use plain_xml::{XmlStop, read};
 use std::alloc::Global;
 use xmp_base::{Desk, Failed, ReadStop, Sink, read_all};
 use xmp_rdf::tree_of;
 use xmp_tree::{Member, Members};
 use xmp_values::{Bytes, Memory, Name, Text};
-use xmp_xml::{XmlStop, read};
 
 /// The namespace of Dublin Core.
 const DUBLIN_CORE: &str = "http://purl.org/dc/elements/1.1/";
@@ -83,7 +83,7 @@ fn properties_of<'p>(alloc: Global, bytes: &'p [u8]) -> Result<Members<'p>, Stop
 }
 
 /// A name of Dublin Core.
-#[tactic(auto, unfolding(xmp_xml::specs::PlainDocument::dc_space))]
+#[tactic(auto, unfolding(plain_xml::specs::PlainDocument::dc_space))]
 fn dublin_core(local: &[u8]) -> Name<'_>
     ensures { result ≡ named dc_space local.now }
 {

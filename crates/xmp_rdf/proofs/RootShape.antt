@@ -10,8 +10,8 @@ use Rattle.xml_grammar.specs.declared.elements.Child.TheOpen as layer
 use Rattle.xml_grammar.specs.declared.elements.Child.TheVariants as child
 use Rattle.xml_grammar.specs.declared.elements.Element.{Element, out-Element, out-roll-Element}
 use Rattle.xmp_tree.specs.Parts.{member, simple}
-use Rattle.xmp_xml.specs.Plain.{Property, line, head, meta_tag, rdf_tag}
-use Rattle.xmp_xml.specs.PlainDocument.{named, element, around, packet, rdf_space, meta_space, about, description, property_element, property_children, line_break, content, dc_space, root_of}
+use Rattle.plain_xml.specs.Plain.{Property, line, head, meta_tag, rdf_tag}
+use Rattle.plain_xml.specs.PlainDocument.{named, element, around, packet, rdf_space, meta_space, about, description, property_element, property_children, line_break, content, dc_space, root_of}
 use Rattle.xmp_rdf.specs.Plain.{property_member, places_from}
 use Rattle.xmp_rdf.specs.Children.{element_at, text_at, text_in, property_in, property_at, properties_in, place_at, places_in}
 

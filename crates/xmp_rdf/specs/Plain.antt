@@ -2,8 +2,8 @@
 use Rattle.std.specs.Prelude.{ℕ, ◌+◌, List, [], ◌∷◌, length, map, None}
 use Rattle.xmp_tree.specs.declared.nested.Member.{Member}
 use Rattle.xmp_tree.specs.Parts.{Parts, member, simple}
-use Rattle.xmp_xml.specs.Plain.{Property, line, head}
-use Rattle.xmp_xml.specs.PlainDocument.{named, dc_space}
+use Rattle.plain_xml.specs.Plain.{Property, line, head}
+use Rattle.plain_xml.specs.PlainDocument.{named, dc_space}
 use Rattle.xmp_rdf.specs.declared.meanings.Meaning.{Meaning}
 
 -- a simple property of Dublin Core

@@ -3,7 +3,7 @@ ghost use Rattle.std.specs.Prelude.{◌≡◌, [], IfOk, IsSomeAnd, map};
 ghost use Rattle.std.specs.Option.{option_copied};
 ghost use Rattle.xml_grammar.specs.declared.elements.Element.{Element, out-Element};
 ghost use Rattle.xmp_tree.specs.Parts.{simple};
-ghost use Rattle.xmp_xml.specs.PlainDocument.{around, packet};
+ghost use Rattle.plain_xml.specs.PlainDocument.{around, packet};
 ghost use Rattle.xmp_rdf.specs.Plain.{property_member};
 ghost use Rattle.xmp_rdf.specs.Children.{text_in, property_in, properties_in, places_in};
 

@@ -1,7 +1,7 @@
 //! Reads RDF/XML: a document to the tree of its properties.
 //!
 //! `tree_of` answers the tree, with the place of each property. Today it reads the document
-//! of a plain text. It stands on `xmp_xml`, `xml_grammar`, `xmp_tree` and `xmp_values`.
+//! of a plain text. It stands on `plain_xml`, `xml_grammar`, `xmp_tree` and `xmp_values`.
 //! ISO 16684-1, section 7, RDF serialisation.
 #![tactic(auto)]
 

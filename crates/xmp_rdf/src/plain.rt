@@ -1,16 +1,16 @@
 ghost use Rattle.std.specs.Prelude.{◌≡◌, List, IfOk, OnErr, IfErr};
-ghost use Rattle.xmp_xml.specs.Plain.{Property};
-ghost use Rattle.xmp_xml.specs.PlainDocument.{root_of};
+ghost use Rattle.plain_xml.specs.Plain.{Property};
+ghost use Rattle.plain_xml.specs.PlainDocument.{root_of};
 ghost use Rattle.xmp_rdf.specs.Plain.{meaning_of};
 ghost use Rattle.xmp_rdf.specs.declared.stops.RdfStop.TheVariants as stop;
 
 use crate::descriptions::{description_of, properties};
 use crate::meanings::Meaning;
 use crate::stops::RdfStop;
+use plain_xml::Doc;
 use std::alloc::Global;
 use xmp_tree::Tree;
 use xmp_values::{Hints, Rule, Text};
-use xmp_xml::Doc;
 
 /// The meaning of a document. Its texts are those of the document, and none is copied.
 pub fn tree_of<'p>(alloc: Global, doc: &Doc<'p>) -> Result<Meaning<'p>, RdfStop>

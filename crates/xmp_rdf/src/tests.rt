@@ -1,7 +1,7 @@
 use crate::{Meaning, tree_of};
+use plain_xml::read;
 use std::test::Fail;
 use xmp_tree::{Member, Shape};
-use xmp_xml::read;
 
 const TEXT: &[u8] = b"<x:xmpmeta xmlns:x=\"adobe:ns:meta/\">\n\
     <rdf:RDF xmlns:rdf=\"http://www.w3.org/1999/02/22-rdf-syntax-ns#\">\n\

@@ -1,20 +1,9 @@
-//! Reads XMP packets: a text to its document.
+//! The XML of packets: a text to its one document, or to its first fault.
 //!
-//! `read` answers a document exactly where the text is one that it knows, today a plain
-//! one: an `x:xmpmeta` with simple properties of Dublin Core, one on each line. It stands
-//! on `xml_grammar` and `xmp_values`. XML 1.0 (fifth edition); ISO 16684-1, section 7.
+//! The layer's face: `read`, `Doc` and the element types under one roof. The reader stands in
+//! `xml_documents`, its definitions in `xml_grammar`. XML 1.0 (fifth edition) and Namespaces in
+//! XML 1.0, without document types.
 #![tactic(auto)]
 
-mod apart;
-mod documents;
-mod elements;
-mod lines;
-mod reading;
-mod stops;
-#[cfg(test)]
-mod tests;
-
-pub use documents::Doc;
-pub use reading::read;
-pub use stops::XmlStop;
+pub use xml_documents::{Doc, XmlStop, read};
 pub use xml_grammar::{Attribute, Attributes, Child, Children, Element};

@@ -2,8 +2,8 @@ use Rattle.std.proofs.Common.{ℕ, ◌≡◌, ◌∙◌, ap, sym, subst, List, [
 use Rattle.xmp_tree.specs.declared.nested.Member.{Member}
 use Rattle.xmp_tree.specs.Parts.{Parts}
 use Rattle.xmp_tree.specs.Wf.{Wf}
-use Rattle.xmp_xml.specs.Plain.{head}
-use Rattle.xmp_xml.specs.PlainDocument.{description, property_children}
+use Rattle.plain_xml.specs.Plain.{head}
+use Rattle.plain_xml.specs.PlainDocument.{description, property_children}
 use Rattle.xmp_rdf.specs.Plain.{property_member, tree_of, places_from}
 use Rattle.xmp_rdf.specs.Children.{properties_in, places_in}
 use Rattle.xmp_rdf.proofs.RootShape.{found_children, root_of-packet, properties_in-description, places_in-description}
