@@ -1,13 +1,14 @@
 -- Line ends, character by character.
-use Rattle.std.proofs.Common.{◌≡◌, ℕ, Bool, true, false, cond, eqb, ◌&&◌, not, List, [], ◌∷◌, ◌++◌, refl, sym, ap, ◌∙◌, append_assoc}
+use Rattle.std.proofs.Common.{◌≡◌, ℕ, ◌+◌, Bool, true, false, cond, eqb, ◌&&◌, List, [], ◌∷◌, ◌++◌, length, refl, sym, ap, ◌∙◌, append_assoc, length-append, arith}
 use Rattle.std.specs.Prelude.{encode_utf8, encode_utf8_all}
-use Rattle.std.proofs.lemmas.List.{append-nil}
+use Rattle.std.specs.List.{slice_index}
+use Rattle.std.proofs.lemmas.Bool.{eqb-true}
+use Rattle.std.proofs.lemmas.List.{append-nil, get_or-append-add}
+use Rattle.std.proofs.lemmas.Str.{encode_ascii}
 use lib.Utf8.{encode}
-use Rattle.xmp_values.specs.Characters.{is_char}
+use Rattle.memchr.specs.Find.{Nowhere, Passes, is_byte}
 use Rattle.xml_grammar.specs.Spelling.{line_ends, line_ends_after}
-use Rattle.xml_tokenizer.specs.Classes.{is_other}
 use Rattle.xml_tokenizer.specs.Lines.{line_bytes}
-use Rattle.xml_tokenizer.specs.Runs.{past}
 
 pub line_more : (behind : Bool) (c : ℕ) (cs : List ℕ) → encode_utf8_all (line_ends_after behind (c ∷ cs)) ≡ line_bytes behind c ++ encode_utf8_all (line_ends_after (eqb c 13) cs)
 unfolding line_bytes encode
@@ -28,13 +29,13 @@ pub lines_end : (text owned : List ℕ) (behind : Bool) (cs : List ℕ) → cs �
 lines_end text owned behind cs h so_far = sym (append-nil owned) ∙ ap (λ (x : List ℕ). owned ++ encode_utf8_all (line_ends_after behind x)) (sym h) ∙ so_far
 
 -- a text without CR has its line ends already
-pub no_returns : (cs : List ℕ) → past (is_other 13) cs ≡ [] → line_ends cs ≡ cs
-unfolding is_other
-no_returns [] e = refl
-no_returns (c ∷ cs) e = by_test (is_char c) (eqb c 13) refl e (no_returns cs)
+pub no_returns : (cs : List ℕ) → Nowhere (Passes (is_byte 13) (encode_utf8_all cs)) 0 (length (encode_utf8_all cs)) → line_ends cs ≡ cs
+no_returns [] h = refl
+no_returns (c ∷ cs) h = by_return (eqb c 13) refl (no_returns cs (λ k low high at. h (length (encode_utf8 c) + k) (omega arith) (omega (arith, length-append (encode_utf8 c) (encode_utf8_all cs))) (ap (λ (b : ℕ). eqb b 13) (get_or-append-add (encode_utf8 c) (encode_utf8_all cs) k 0) ∙ at)))
   where
-    by_test : (v w : Bool) → eqb c 13 ≡ w → cond (v && not w) (past (is_other 13) cs) (c ∷ cs) ≡ [] → (past (is_other 13) cs ≡ [] → line_ends cs ≡ cs) → line_ends (c ∷ cs) ≡ c ∷ cs
-    by_test true false f h ih = rw f (ap (λ (x : List ℕ). c ∷ x) (ih h))
-    by_test true true f h ih = absurd cc
-    by_test false true f h ih = absurd cc
-    by_test false false f h ih = absurd cc
+    by_return : (v : Bool) → eqb c 13 ≡ v → line_ends cs ≡ cs → line_ends (c ∷ cs) ≡ c ∷ cs
+    by_return true e ih =
+        let same : encode_utf8 c ≡ 13 ∷ [] = ap encode_utf8 (eqb-true c 13 e) ∙ encode_ascii 13 (omega arith) in
+        let one : length (encode_utf8 c) ≡ 1 = ap length same in
+        absurd (h 0 (omega arith) (omega (arith, one, length-append (encode_utf8 c) (encode_utf8_all cs))) (ap (λ (t : List ℕ). eqb (slice_index (t ++ encode_utf8_all cs) 0) 13) same))
+    by_return false e ih = rw e (ap (λ (x : List ℕ). c ∷ x) ih)

@@ -13,7 +13,7 @@ use Rattle.xml_grammar.proofs.Splits.{both, all_cons}
 use Rattle.xml_tokenizer.specs.declared.classes.Class.{Class}
 use Rattle.xml_tokenizer.specs.declared.classes.Class.TheVariants as classes
 use Rattle.xml_tokenizer.specs.Runs.{Passes}
-use Rattle.xml_tokenizer.specs.Classes.{has, is_wide, is_sure, is_plain, is_value, is_other}
+use Rattle.xml_tokenizer.specs.Classes.{has, is_wide, is_sure, is_plain, is_value}
 
 sure_wide : (class : Class) (b : ℕ) → 128 ≤ b → is_sure class b ≡ (is_wide class && not (eqb b 0xEF))
 unfolding is_sure
@@ -35,14 +35,13 @@ unfolding is_char
 wide_char c s low a b = grind (arith, nat_tests)
 
 wide_has : (class : Class) (c : ℕ) → is_wide class ≡ true → 128 ≤ c → is_char c ≡ true → has class c ≡ true
-unfolding is_plain is_value is_other
+unfolding is_plain is_value
 wide_has classes.NameChar c w low h = absurd cc
 wide_has classes.Blank c w low h = absurd cc
 wide_has classes.Decimal c w low h = absurd cc
 wide_has classes.Char c w low h = h
 wide_has classes.Plain c w low h = grind (arith, nat_tests)
 wide_has (classes.Value quote) c w low h = grind (arith, nat_tests)
-wide_has (classes.Other stop) c w low h = grind (arith, nat_tests)
 
 -- the first byte of a character from 128 on, and the bytes behind it
 pub record Wide (class : Class) (c : ℕ) : Type 0 where

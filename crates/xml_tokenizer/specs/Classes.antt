@@ -3,7 +3,7 @@ use Rattle.std.specs.Prelude.{ℕ, Bool, true, false, nat_lt, if◌then◌else�
 use Rattle.xmp_values.specs.Characters.{is_blank, is_char, is_name_char}
 use Rattle.xml_grammar.specs.Spelling.{is_digit}
 use Rattle.xml_tokenizer.specs.declared.classes.Class.{Class}
-use Rattle.xml_tokenizer.specs.declared.classes.Class.TheVariants.{NameChar, Blank, Decimal, Char, Plain, Value, Other}
+use Rattle.xml_tokenizer.specs.declared.classes.Class.TheVariants.{NameChar, Blank, Decimal, Char, Plain, Value}
 
 -- a Char that stands for itself wherever it stands
 unfoldable pub is_plain : ℕ → Bool
@@ -13,10 +13,6 @@ is_plain c = is_char c && not (c == 60 || c == 38 || c == 13 || c == 93)
 unfoldable pub is_value : ℕ → ℕ → Bool
 is_value quote c = is_char c && not (c == 60 || c == 38 || c == quote || c == 9 || c == 10 || c == 13)
 
--- a Char other than this one
-unfoldable pub is_other : ℕ → ℕ → Bool
-is_other stop c = is_char c && not (c == stop)
-
 abbrev pub has : Class → ℕ → Bool
 has NameChar = is_name_char
 has Blank = is_blank
@@ -24,7 +20,6 @@ has Decimal = is_digit 10
 has Char = is_char
 has Plain = is_plain
 has (Value quote) = is_value quote
-has (Other stop) = is_other stop
 
 -- are all Chars from U+80 on of the class?
 abbrev pub is_wide : Class → Bool
@@ -34,7 +29,6 @@ is_wide Decimal = false
 is_wide Char = true
 is_wide Plain = true
 is_wide (Value quote) = nat_lt quote 128
-is_wide (Other stop) = nat_lt stop 128
 
 -- A byte that, wherever it stands in UTF-8, is of a character of the class. EF begins U+FFFE and U+FFFF, which are no Chars.
 unfoldable pub is_sure : Class → ℕ → Bool

@@ -1,7 +1,7 @@
 //! Classes of characters.
 
 ghost use Rattle.std.specs.Prelude.{◌≡◌};
-ghost use Rattle.xml_tokenizer.specs.Classes.{has, is_plain, is_value, is_other, is_sure, is_wide};
+ghost use Rattle.xml_tokenizer.specs.Classes.{has, is_plain, is_value, is_sure, is_wide};
 
 use xmp_values::{is_blank, is_char, is_name_char};
 
@@ -16,8 +16,6 @@ pub enum Class {
     Plain,
     /// Chars that stand for themselves between two such quotes.
     Value(char),
-    /// Chars other than this one.
-    Other(char),
 }
 
 #[tactic(auto, unfolding(crate::specs::Classes::is_plain))]
@@ -34,13 +32,6 @@ fn is_value(quote: char, c: char) -> bool
     is_char(c) && !(c == '<' || c == '&' || c == quote || c == '\t' || c == '\n' || c == '\r')
 }
 
-#[tactic(auto, unfolding(crate::specs::Classes::is_other))]
-fn is_other(stop: char, c: char) -> bool
-    ensures { result ≡ is_other stop c }
-{
-    is_char(c) && c != stop
-}
-
 pub fn has(class: Class, c: char) -> bool
     ensures { result ≡ has class c }
 {
@@ -51,7 +42,6 @@ pub fn has(class: Class, c: char) -> bool
         Class::Char => is_char(c),
         Class::Plain => is_plain(c),
         Class::Value(quote) => is_value(quote, c),
-        Class::Other(stop) => is_other(stop, c),
     }
 }
 
@@ -63,7 +53,6 @@ fn is_wide(class: Class) -> bool
         Class::NameChar | Class::Blank | Class::Decimal => false,
         Class::Char | Class::Plain => true,
         Class::Value(quote) => quote < '\u{80}',
-        Class::Other(stop) => stop < '\u{80}',
     }
 }
 

@@ -6,8 +6,8 @@ ghost use Rattle.std.specs.String.{string_bytes};
 ghost use Rattle.xml_grammar.specs.Spelling.{line_ends};
 ghost use Rattle.xml_tokenizer.specs.Lines.{line_bytes};
 
-use crate::classes::Class;
-use crate::runs::{next_char, past_run};
+use crate::runs::next_char;
+use memchr::memchr;
 use std::alloc::{AllocError, Global};
 use xmp_values::{Bytes, Text};
 
@@ -48,9 +48,12 @@ fn owned_lines(alloc: Global, text: &str) -> Result<String, AllocError>
 pub fn lines_of(alloc: Global, text: &str) -> Result<Text<'_>, AllocError>
     ensures { IfOk result (λ x. x ≡ encode_utf8_all (line_ends (chars text.now))) }
 {
-    if past_run(Class::Other('\r'), text).is_empty() {
-        return Ok(Text::raw(text.as_bytes()));
+    let bytes = text.as_bytes();
+    match memchr(b'\r', bytes) {
+        None => Ok(Text::raw(bytes)),
+        Some(_) => {
+            let owned = owned_lines(alloc, text)?;
+            Ok(Text::own(Bytes::from_vec(owned.into_bytes())))
+        }
     }
-    let owned = owned_lines(alloc, text)?;
-    Ok(Text::own(Bytes::from_vec(owned.into_bytes())))
 }

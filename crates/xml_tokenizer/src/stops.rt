@@ -34,6 +34,6 @@ impl From<AllocError> for Miss {
 #[derive(Debug, Drop)]
 pub enum TokenStop {
     Memory,
-    /// The least rule that holds for what stands there.
+    /// The least rule that holds for what stands there; `Unfinished` where nothing is left.
     Fault(Rule),
 }

@@ -3,7 +3,7 @@
 use crate::{TokenStop, behind_mark, text_of, token_of};
 use std::alloc::Global;
 use std::test::Fail;
-use xml_grammar::{Mode, Tag, Token};
+use xml_grammar::{Mode, QName, Tag, Token};
 use xmp_values::Rule;
 
 // A call without a contract: what a test knows of it is what it asserts.
@@ -41,7 +41,7 @@ fn shown<'a>(token: &'a Token<'_>) -> (&'static str, &'a [u8]) {
 /// A mode, a text, the kind of its first token, what that carries, and the text after it.
 type Spelled = (Mode, &'static str, &'static str, &'static str, &'static str);
 
-const SPELLINGS: [Spelled; 20] = [
+const SPELLINGS: [Spelled; 21] = [
     (
         Mode::Start,
         "<?xml version=\"1.0\"?><a/>",
@@ -59,6 +59,13 @@ const SPELLINGS: [Spelled; 20] = [
     (
         Mode::Start,
         "<?xml\tversion=\"1.1\" standalone='no' ?>",
+        "declaration",
+        "",
+        "",
+    ),
+    (
+        Mode::Start,
+        "<?xml version='1.0' standalone='yes'?>",
         "declaration",
         "",
         "",
@@ -137,27 +144,40 @@ fn reads_references(rt: HostRuntime) -> Result<(), Fail> {
     Ok(())
 }
 
-const VALUES: [(&str, &str); 4] = [
-    ("<a b=\"\">", ""),
-    ("<a b=\"it's > \u{E9}\">", "it's > \u{E9}"),
-    ("<a b='a\tb\nc\r\nd\re'>", "a b c d e"),
-    ("<a b='&#10;&lt;&#xD;'>", "\n<\r"),
+fn prefix_of<'a>(name: &'a QName<'_>) -> &'a [u8] {
+    match &name.prefix {
+        Some(prefix) => prefix.bytes(),
+        None => b"",
+    }
+}
+
+/// A tag, its prefix, and its first attribute's prefix, local name and value.
+const VALUES: [(&str, &str, &str, &str, &str); 5] = [
+    ("<a b=\"\">", "", "", "b", ""),
+    ("<a b=\"it's > \u{E9}\">", "", "", "b", "it's > \u{E9}"),
+    ("<a b='a\tb\nc\r\nd\re'>", "", "", "b", "a b c d e"),
+    ("<x:a b='&#10;&lt;&#xD;'>", "x", "", "b", "\n<\r"),
+    ("<x:a rdf:about='u'>", "x", "rdf", "about", "u"),
 ];
 
 #[test]
 fn reads_values(rt: HostRuntime) -> Result<(), Fail> {
-    for (text, want) in VALUES {
+    for (text, outer, prefix, local, want) in VALUES {
         let (token, _) = first_token(rt.alloc(), Mode::Inside, text)?;
         let Token::Start(tag) = token else {
             return Err("no tag")?;
         };
+        assert_eq!(rt; prefix_of(&tag.name), outer.as_bytes(), "of {text}");
         let attribute = tag.attributes.get(0).ok_or("no attribute")?;
+        assert_eq!(rt; prefix_of(&attribute.name), prefix.as_bytes(), "of {text}");
+        assert_eq!(rt; attribute.name.local.bytes(), local.as_bytes(), "of {text}");
         assert_eq!(rt; attribute.value.bytes(), want.as_bytes(), "of {text}");
     }
     Ok(())
 }
 
-const REFUSALS: [(Mode, &str, Rule); 29] = [
+const REFUSALS: [(Mode, &str, Rule); 41] = [
+    (Mode::Outside, "", Rule::Unfinished),
     (Mode::Inside, "\u{1}", Rule::BadChar),
     (Mode::Outside, "\u{FFFE}", Rule::BadChar),
     (Mode::Inside, "]]></a>", Rule::BadChar),
@@ -169,17 +189,25 @@ const REFUSALS: [(Mode, &str, Rule); 29] = [
     (Mode::Inside, "&#4294967362;", Rule::BadReference),
     (Mode::Inside, "&#;", Rule::BadReference),
     (Mode::Inside, "&lt", Rule::BadReference),
+    (Mode::Inside, "&#X41;", Rule::BadReference),
+    (Mode::Inside, "&#xG;", Rule::BadReference),
     (Mode::Inside, "<", Rule::BadTag),
     (Mode::Inside, "< a>", Rule::BadTag),
     (Mode::Inside, "<a:b:c>", Rule::BadTag),
     (Mode::Inside, "<a b='1'c='2'>", Rule::BadTag),
     (Mode::Inside, "<a b=1>", Rule::BadTag),
+    (Mode::Inside, "<a b>", Rule::BadTag),
+    (Mode::Inside, "<a/ >", Rule::BadTag),
+    (Mode::Inside, "<:a>", Rule::BadTag),
+    (Mode::Inside, "<![CDATA", Rule::BadTag),
     (Mode::Inside, "<a b='<'>", Rule::BadTag),
     (Mode::Inside, "<a b='&x;'>", Rule::BadTag),
     (Mode::Inside, "</a b='1'>", Rule::BadTag),
     (Mode::Inside, "<!ELEMENT a>", Rule::BadTag),
     (Mode::Outside, "<!-- a -- b -->", Rule::BadComment),
     (Mode::Outside, "<!-- a --->", Rule::BadComment),
+    (Mode::Outside, "<!-- a", Rule::BadComment),
+    (Mode::Outside, "<!-->", Rule::BadComment),
     (
         Mode::Outside,
         "<?xml version=\"1.0\"?>",
@@ -191,6 +219,13 @@ const REFUSALS: [(Mode, &str, Rule); 29] = [
         Rule::BadInstruction,
     ),
     (Mode::Start, "<?xml version=\"2.0\"?>", Rule::BadInstruction),
+    (Mode::Start, "<?xml version=\"1.\"?>", Rule::BadInstruction),
+    (
+        Mode::Start,
+        "<?xml version=\"1.0\" standalone=\"maybe\"?>",
+        Rule::BadInstruction,
+    ),
+    (Mode::Inside, "<?p a", Rule::BadInstruction),
     (Mode::Outside, "<?XmL a?>", Rule::BadInstruction),
     (Mode::Outside, "<?a:b?>", Rule::BadInstruction),
     (Mode::Inside, "<![CDATA[\u{0}]]>", Rule::BadCdata),

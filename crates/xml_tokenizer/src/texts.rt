@@ -1,7 +1,8 @@
 //! Text from bytes.
 
-ghost use Rattle.std.specs.Prelude.{◌≡◌, ◌↔◌, IsTrue, IsUtf8, IfOk, IfErr};
+ghost use Rattle.std.specs.Prelude.{◌≡◌, ◌↔◌, ◌⊎◌, IsTrue, IsUtf8, IfOk, IfErr};
 ghost use Rattle.std.specs.Str.{chars};
+ghost use Rattle.xmp_values.specs.declared.rules.Rule.TheVariants.{Utf16, NotUtf8};
 ghost use Rattle.xml_grammar.specs.Documents.{IsUtf16, IsFault, behind_mark};
 
 use crate::runs::next_char;
@@ -19,6 +20,7 @@ fn is_utf16(bytes: &[u8]) -> bool
 pub fn text_of(bytes: &[u8]) -> Result<&str, (Rule, u64)>
     ensures text { IfOk result (λ s. (s.now ≡ bytes.now) × IsUtf8 bytes.now × (IsUtf16 bytes.now → ⊥)) }
     ensures fault { IfErr result (λ e. IsFault bytes.now e.0 e.1) }
+    ensures kind { IfErr result (λ e. (e.0 ≡ Utf16) ⊎ (e.0 ≡ NotUtf8)) }
 {
     if is_utf16(bytes) {
         return Err((Rule::Utf16, 0));

@@ -4,7 +4,7 @@ ghost use Rattle.std.specs.Prelude.{◌≡◌, ◌≢◌, [], IfOk, IfErr};
 ghost use Rattle.std.specs.Str.{chars};
 ghost use Rattle.xml_grammar.specs.Pieces.{StandsRow, pieces_of};
 ghost use Rattle.xml_tokenizer.specs.Faults.{markup_rule, rule_at};
-ghost use Rattle.xml_tokenizer.specs.Stands.{Fails, IsBehind};
+ghost use Rattle.xml_tokenizer.specs.Stands.{Fails, FailsAtEnd, IsBehind};
 ghost use Rattle.xml_tokenizer.specs.Tokens.{is_start, is_inside, question_at, section_at, markup_at, bracket_at, run_at, token_at};
 ghost use Rattle.xml_tokenizer.specs.Steps.{Gives};
 
@@ -163,6 +163,8 @@ pub fn token_of(alloc: Global, mode: Mode, text: &str) -> Result<(Token<'_>, &st
     ensures some { IfOk result (λ x. (pieces_of x.0 ≢ []) × IsBehind text.now x.1.now) }
     // Without a token no piece stands there, and the rule goes by what the text begins with.
     ensures fault { IfErr result (Fails mode (chars text.now)) }
+    // At the end of the text the rule is `Unfinished`.
+    ensures ended { IfErr result (FailsAtEnd (chars text.now)) }
 {
     match read(alloc, mode, text) {
         Ok((token, rest)) => Ok((token, rest)),

@@ -2,6 +2,7 @@ use Rattle.std.proofs.Common.{rules, ◌≡◌, ◌∙◌, sym, ap, subst, None}
 use Rattle.std.specs.Str.{chars, IsUtf8}
 use Rattle.xml_grammar.specs.declared.tokens.Mode.{Mode}
 use Rattle.xml_grammar.specs.Documents.{IsRule}
+use Rattle.xml_tokenizer.specs.Faults.{rule_at}
 use Rattle.xml_tokenizer.specs.Tokens.{token_at}
 use Rattle.xml_tokenizer.proofs.FaultLaws.{fails_by}
 use Rattle.xml_tokenizer.proofs.TokenLaws.{token_takes, token_none, behind_row}
@@ -20,3 +21,7 @@ pub returns-in-Err-Nothing-clause-fault : goal.returns-in-Err-Nothing-clause-fau
 returns-in-Err-Nothing-clause-fault c =
     let none : token_at c.args.mode (chars c.args.text.now) ≡ None = rw c.in-Err-Nothing.field-0-is at c.in-Err-Nothing.ensures in
     (token_none c.args.mode (chars c.args.text.now) none, λ some s is. subst (IsRule s (chars c.args.text.now)) (sym c.rule_of.ensures) (fails_by s (chars c.args.text.now) some (ap (λ (m : Mode). token_at m (chars c.args.text.now)) is ∙ none)))
+
+pub returns-in-Err-Nothing-clause-ended : goal.returns-in-Err-Nothing-clause-ended
+unfolding rule_at
+returns-in-Err-Nothing-clause-ended c = λ empty. c.rule_of.ensures ∙ ap rule_at empty
