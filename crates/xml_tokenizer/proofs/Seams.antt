@@ -19,9 +19,6 @@ pub record IsRun (p : ℕ → Bool) (text rest : List ℕ) : Type 0 where
   pub parts : text ≡ encode_utf8_all (taken p (chars text)) ++ rest
   pub same : chars rest ≡ past p (chars text)
 
-pub went_none : (p : ℕ → Bool) (text : List ℕ) → Went p text text
-went_none p text = record { front = []; parts = refl; run = refl; same = refl }
-
 pub went_more : (p : ℕ → Bool) (text rest behind : List ℕ) (c : ℕ) → Went p text rest → rest ≡ encode_utf8 c ++ behind → chars rest ≡ c ∷ chars behind → p c ≡ true → Went p text behind
 went_more p text rest behind c w e h yes_ =
     let one : encode_utf8_all (c ∷ []) ≡ encode_utf8 c = append-nil (encode_utf8 c) in

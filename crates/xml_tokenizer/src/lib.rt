@@ -19,8 +19,6 @@ mod texts;
 mod tokens;
 mod values;
 
-pub use classes::Class;
-pub use runs::{next_char, past_run, run, width_of};
 pub use stops::TokenStop;
 pub use texts::{behind_mark, text_of};
 pub use tokens::token_of;
