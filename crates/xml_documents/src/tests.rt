@@ -1,8 +1,10 @@
+//! First faults with their places, and a document with its tree, by the standard.
+
 use crate::{XmlStop, read};
 use std::alloc::Global;
 use std::test::Fail;
-use xml_grammar::{Child, Element};
-use xmp_values::{Bytes, Memory, Rule};
+use xml_grammar::{Attribute, Child, Element};
+use xmp_values::{Hints, Rule};
 
 /// The fault of a text, or none where it has a document.
 fn fault_of(alloc: Global, text: &[u8]) -> Option<(Rule, u64)> {
@@ -12,56 +14,54 @@ fn fault_of(alloc: Global, text: &[u8]) -> Option<(Rule, u64)> {
     }
 }
 
+/// Whether this is the text's first fault.
+fn has_fault(alloc: Global, text: &[u8], rule: Rule, at: u64) -> bool {
+    fault_of(alloc, text) == Some((rule, at))
+}
+
+const FAULTS: [(&str, Rule, u64); 13] = [
+    ("<a><b></a>", Rule::Mismatch, 6),
+    ("<a>]]></a>", Rule::BadChar, 3),
+    ("<a b=\"1\" b=\"2\"/>", Rule::TwiceAttribute, 0),
+    ("<a>&copy;</a>", Rule::BadReference, 3),
+    ("<a>", Rule::Unfinished, 3),
+    ("<a/><b/>", Rule::OutsideRoot, 4),
+    ("\u{FEFF}<a>&#0;</a>", Rule::BadReference, 6),
+    ("<a/>\n b", Rule::OutsideRoot, 6),
+    (
+        "<?xml version='1.0' encoding='latin1'?><a/>",
+        Rule::Encoding,
+        0,
+    ),
+    ("<a xmlns:p=''/>", Rule::BadNamespace, 0),
+    ("<a><p:b xmlns:q='u'/></a>", Rule::UnboundPrefix, 3),
+    (
+        "<a xmlns:p='u' xmlns:q='u' p:b='' q:b=''/>",
+        Rule::TwiceAttribute,
+        0,
+    ),
+    ("<a xmlns:p='u' xmlns:p='v'/>", Rule::TwiceAttribute, 0),
+];
+
 #[test]
 fn the_first_fault_is_named(rt: HostRuntime) {
-    let rows = [
-        (b"<a><b></a>".as_slice(), Rule::Mismatch, 6),
-        (b"\xFF\xFE<\0".as_slice(), Rule::Utf16, 0),
-        (b"<a>]]></a>".as_slice(), Rule::BadChar, 3),
-        (b"<a b=\"1\" b=\"2\"/>".as_slice(), Rule::TwiceAttribute, 0),
-        (b"<a>&copy;</a>".as_slice(), Rule::BadReference, 3),
-        (b"<a>".as_slice(), Rule::Unfinished, 3),
-        (b"<a/><b/>".as_slice(), Rule::OutsideRoot, 4),
-        (b"\xEF\xBB\xBF<a>&#0;</a>".as_slice(), Rule::BadReference, 6),
-        (b"<a/>\n b".as_slice(), Rule::OutsideRoot, 6),
-        (b"<a>\x80</a>".as_slice(), Rule::NotUtf8, 3),
-        (
-            b"<?xml version='1.0' encoding='latin1'?><a/>".as_slice(),
-            Rule::Encoding,
-            0,
-        ),
-        (b"<a xmlns:p=''/>".as_slice(), Rule::BadNamespace, 0),
-        (
-            b"<a><p:b xmlns:q='u'/></a>".as_slice(),
-            Rule::UnboundPrefix,
-            3,
-        ),
-        (
-            b"<a xmlns:p='u' xmlns:q='u' p:b='' q:b=''/>".as_slice(),
-            Rule::TwiceAttribute,
-            0,
-        ),
-        (
-            b"<a xmlns:p='u' xmlns:p='v'/>".as_slice(),
-            Rule::TwiceAttribute,
-            0,
-        ),
-    ];
-    for (text, rule, at) in rows {
-        assert_eq!(rt; fault_of(rt.alloc(), text), Some((rule, at)));
+    for (text, rule, at) in FAULTS {
+        assert!(rt;
+            has_fault(rt.alloc(), text.as_bytes(), rule, at),
+            "of {text}"
+        );
     }
+    assert!(rt; has_fault(rt.alloc(), b"\xFF\xFE<\0", Rule::Utf16, 0));
+    assert!(rt; has_fault(rt.alloc(), b"<a>\x80</a>", Rule::NotUtf8, 3));
 }
 
 #[test]
 fn an_element_at_depth_101_is_too_deep(rt: HostRuntime) -> Result<(), Fail> {
-    let mut text = Bytes::new(rt.alloc());
+    let mut text = Vec::new(rt.alloc());
     for _ in 0..101 {
-        text.append(Bytes::from_slice(rt.alloc(), b"<a>")?)?;
+        text.extend_from_slice(b"<a>")?;
     }
-    assert_eq!(rt;
-        fault_of(rt.alloc(), text.as_slice()),
-        Some((Rule::TooDeep, 300))
-    );
+    assert!(rt; has_fault(rt.alloc(), text.as_slice(), Rule::TooDeep, 300));
     Ok(())
 }
 
@@ -70,33 +70,54 @@ fn is_named(element: &Element<'_>, space: &[u8], local: &[u8]) -> bool {
     element.name.space.bytes() == space && element.name.local.bytes() == local
 }
 
+fn is_in(attribute: Option<&Attribute<'_>>, space: &[u8]) -> bool {
+    match attribute {
+        Some(attribute) => attribute.name.space.bytes() == space,
+        None => false,
+    }
+}
+
+fn is_text(child: Option<&Child<'_>>, bytes: &[u8]) -> bool {
+    match child {
+        Some(Child::Text(text)) => text.bytes() == bytes,
+        _ => false,
+    }
+}
+
+fn is_element(child: Option<&Child<'_>>, space: &[u8], local: &[u8], at: u64) -> bool {
+    match child {
+        Some(Child::Element(element)) => is_named(element, space, local) && element.at() == at,
+        _ => false,
+    }
+}
+
+fn is_hint(hints: &Hints, space: &[u8], prefix: &[u8]) -> bool {
+    match hints.get(0) {
+        Some(hint) => hint.space.as_slice() == space && hint.prefix.as_slice() == prefix,
+        None => false,
+    }
+}
+
+/// Whether the root is `a` of `u` with two attributes, a text and the element `d` of `v`.
+fn is_tree(root: &Element<'_>) -> bool {
+    if !is_named(root, b"u", b"a") || root.attributes.len() != 2 || root.children.len() != 2 {
+        return false;
+    }
+    if !is_in(root.attributes.get(0), b"v") || !is_in(root.attributes.get(1), b"") {
+        return false;
+    }
+    is_text(root.children.get(0), b"x<y\n") && is_element(root.children.get(1), b"v", b"d", 55)
+}
+
+fn has_tree(alloc: Global, text: &[u8]) -> bool {
+    match read(alloc, text) {
+        Ok(doc) => is_tree(doc.root()) && is_hint(doc.declared(), b"v", b"p"),
+        Err(_) => false,
+    }
+}
+
 #[test]
-fn a_document_has_its_tree(rt: HostRuntime) -> Result<(), Fail> {
+fn a_document_has_its_tree(rt: HostRuntime) {
     let text = b"<a xmlns='u' xmlns:p='v' p:b='1' c='2'>x&lt;<!-- -->y\r\n<p:d/><![CDATA[]]></a>";
-    let doc = read(rt.alloc(), text).ok().ok_or("a document")?;
-    let root = doc.root();
-    assert!(rt; is_named(root, b"u", b"a"));
-    assert_eq!(rt; root.attributes.len(), 2);
-    let b = root.attributes.get(0).ok_or("b")?;
-    assert_eq!(rt; b.name.space.bytes(), b"v".as_slice());
-    let c = root.attributes.get(1).ok_or("c")?;
-    assert_eq!(rt; c.name.space.bytes(), b"".as_slice());
-    assert_eq!(rt; root.children.len(), 2);
-    match root.children.get(0).ok_or("a text")? {
-        Child::Text(text) => assert_eq!(rt; text.bytes(), b"x<y\n".as_slice()),
-        Child::Element(_) => assert!(rt; false),
-    }
-    match root.children.get(1).ok_or("an element")? {
-        Child::Text(_) => assert!(rt; false),
-        Child::Element(d) => {
-            assert!(rt; is_named(d, b"v", b"d"));
-            assert_eq!(rt; d.at(), 55);
-        }
-    }
-    let hints = doc.declared();
-    assert_eq!(rt; hints.len(), 1);
-    let hint = hints.get(0).ok_or("a hint")?;
-    assert_eq!(rt; hint.space.as_slice(), b"v".as_slice());
-    assert_eq!(rt; hint.prefix.as_slice(), b"p".as_slice());
-    Ok(())
+    assert!(rt; has_tree(rt.alloc(), text));
 }
