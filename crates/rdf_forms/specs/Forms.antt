@@ -1,12 +1,9 @@
 -- The forms of a property or item (ISO 16684-1, 7.4 to 7.9).
 use Rattle.std.specs.Prelude.{ℕ, Bool, true, false, not, ◌&&◌, if◌then◌else◌, is_some, List, [], ◌∷◌, Option, Some, None, codes}
-use Rattle.std.specs.List.{list_any}
 use Rattle.std.specs.Str.{bytes_eq}
-use Rattle.xml_grammar.specs.declared.elements.Attribute.{Attribute}
 use Rattle.xml_grammar.specs.declared.elements.Element.{Element}
-use Rattle.xmp_tree.specs.Wf.{lang_name}
-use Rattle.rdf_forms.specs.Words.{same_name, rdf, is_container}
-use Rattle.rdf_forms.specs.Parts.{name_of, attributes_of, attribute_value, elements_of, has_blank_text}
+use Rattle.rdf_forms.specs.Words.{is_rdf, is_lang, is_container}
+use Rattle.rdf_forms.specs.Parts.{name_of, attribute_value, has_attribute, elements_of, has_blank_text}
 
 pub data Form : Type 0 where
   -- `rdf:parseType="Resource"`: by its child elements, which are its members
@@ -23,7 +20,7 @@ pub data Form : Type 0 where
   NoForm : Form
 
 abbrev pub parse_type : Element → Option (List ℕ)
-parse_type e = attribute_value (rdf (codes "parseType")) e
+parse_type e = attribute_value (is_rdf (codes "parseType")) e
 
 abbrev pub is_resource : Option (List ℕ) → Bool
 is_resource None = false
@@ -31,7 +28,7 @@ is_resource (Some kind) = bytes_eq kind (codes "Resource")
 
 -- an attribute besides `xml:lang`
 abbrev pub has_other_attribute : Element → Bool
-has_other_attribute e = list_any (λ (a : Attribute). not (same_name a.name lang_name)) (attributes_of e)
+has_other_attribute e = has_attribute (λ n. not (is_lang n)) e
 
 abbrev pub childless_form : Element → Form
 childless_form e = if has_blank_text e && has_other_attribute e then ByAttributes else ByText
@@ -46,5 +43,5 @@ form_by e true (c ∷ cs) = NoForm
 form_by e false (c ∷ []) = child_form c
 form_by e false (c ∷ d ∷ cs) = NoForm
 
-abbrev pub form_of : Element → Form
+unfoldable pub form_of : Element → Form
 form_of e = if is_resource (parse_type e) then ByMembers else form_by e (is_some (parse_type e)) (elements_of e)

@@ -3,5 +3,8 @@ pub mod Parts
 pub mod Forms
 pub mod Values
 pub mod Visits
+pub mod NameRules
+pub mod FormRules
+pub mod MemberRules
 pub mod Rules
 pub mod Meaning

@@ -14,7 +14,7 @@ use Rattle.xmp_tree.specs.Wf.{note_name}
 use Rattle.rdf_forms.specs.Words.{same_name, is_rdf}
 use Rattle.rdf_forms.specs.Parts.{name_of, place_of, elements_of, own_attributes}
 use Rattle.rdf_forms.specs.Values.{attribute_member, element_member, value_within}
-use Rattle.rdf_forms.specs.Rules.{first_about}
+use Rattle.rdf_forms.specs.NameRules.{first_about}
 
 -- a property with its place: of its element, or of the top for a property attribute
 abbrev pub Placed : Type 0

@@ -12,8 +12,8 @@ use Rattle.xmp_tree.specs.declared.nested.Kind.TheVariants as kinds
 use Rattle.xmp_tree.specs.Parts.{value, member}
 use Rattle.xmp_tree.specs.Wf.{value_of}
 use Rattle.xmp_tree.specs.Wf as tree
-use Rattle.xmp_tree.specs.Wf.{lang_name}
-use Rattle.rdf_forms.specs.Words.{rdf, is_rdf, is_own}
+use Rattle.xmp_tree.specs.Wf.{lang_name, type_name}
+use Rattle.rdf_forms.specs.Words.{is_rdf, is_own, is_lang}
 use Rattle.rdf_forms.specs.Parts.{name_of, attributes_of, elements_of, own_text, own_attributes, attribute_value}
 use Rattle.rdf_forms.specs.Forms.{Form, ByMembers, ByContainer, ByNode, ByAttributes, ByText, NoForm, form_of}
 
@@ -33,14 +33,14 @@ listed None = []
 listed (Some m) = m ∷ []
 
 -- the qualifier that `xml:lang` gives
-abbrev pub lang_of : Element → List Member
-lang_of e = listed (option_map lang_member (attribute_value lang_name e))
+unfoldable pub lang_of : Element → List Member
+lang_of e = listed (option_map lang_member (attribute_value is_lang e))
 
 -- the qualifier that a node with a type of its own gives (typed nodes; RDF/XML Syntax, 2.13)
-abbrev pub type_of : Name → List Member
-type_of name = if is_rdf (codes "Description") name then [] else member (rdf (codes "type")) (value (Uri (name.space ++ name.local)) []) ∷ []
+unfoldable pub type_of : Name → List Member
+type_of name = if is_rdf (codes "Description") name then [] else member type_name (value (Uri (name.space ++ name.local)) []) ∷ []
 
-abbrev pub is_value_member : Member → Bool
+unfoldable pub is_value_member : Member → Bool
 is_value_member m = is_rdf (codes "value") (tree.name_of m)
 
 -- the members that aren't `rdf:value`
@@ -50,25 +50,34 @@ other_members ms = filter (λ m. not (is_value_member m)) ms
 -- members with the value of `rdf:value`, if it is among them
 abbrev pub composed : List Member → List Member → List Member → Option Member → Value
 composed lang types ms None = value (Struct ms) (lang ++ types)
-composed lang types ms (Some m) = value (out-Value (value_of m)).shape (lang ++ (out-Value (value_of m)).quals ++ types ++ other_members ms)
+composed lang types ms (Some m) = value (out-Value (value_of m)).shape (lang ++ ((out-Value (value_of m)).quals ++ (types ++ other_members ms)))
 
 -- The value by members: that of `rdf:value`, whose qualifiers the others are, else a structure. First stands `xml:lang`, then
 -- the node's type, then the other members in their order.
-abbrev pub by_members : List Member → List Member → List Member → Value
+unfoldable pub by_members : List Member → List Member → List Member → Value
 by_members lang types ms = composed lang types ms (find is_value_member ms)
 
--- the attributes of a node that are members
-abbrev pub node_members : Element → List Member
-node_members n = map attribute_member (filter (λ (a : Attribute). is_own a.name || is_rdf (codes "value") a.name) (attributes_of n))
+-- a name of an attribute of a node that is a member
+abbrev pub is_node_member : Attribute → Bool
+is_node_member a = is_own a.name || is_rdf (codes "value") a.name
 
-abbrev pub kind_of : Name → Kind
+-- the attributes of a node that are members
+unfoldable pub node_members : Element → List Member
+node_members n = map attribute_member (filter is_node_member (attributes_of n))
+
+unfoldable pub kind_of : Name → Kind
 kind_of name = if is_rdf (codes "Bag") name then kinds.Bag else if is_rdf (codes "Seq") name then kinds.Seq else kinds.Alt
 
 -- the value by attributes: of `rdf:value`, of `rdf:resource`, else a structure of the property attributes
-abbrev pub by_attributes : List Member → List Member → Option (List ℕ) → Option (List ℕ) → Value
-by_attributes lang ms (Some text) uri = value (Simple text) (lang ++ ms)
-by_attributes lang ms None (Some uri) = value (Uri uri) (lang ++ ms)
-by_attributes lang ms None None = value (Struct ms) lang
+abbrev pub attributed : List Member → List Member → Option (List ℕ) → Option (List ℕ) → Value
+attributed lang ms (Some text) uri = value (Simple text) (lang ++ ms)
+attributed lang ms None (Some uri) = value (Uri uri) (lang ++ ms)
+attributed lang ms None None = value (Struct ms) lang
+
+unfoldable pub by_attributes : Element → Value
+by_attributes e =
+    attributed (lang_of e) (map attribute_member (own_attributes e)) (attribute_value (is_rdf (codes "value")) e)
+    (attribute_value (is_rdf (codes "resource")) e)
 
 -- an element as a member, by a reading of its value
 abbrev pub element_member : (Element → Value) → Element → Member
@@ -79,7 +88,7 @@ abbrev pub formed : (Element → Value) → Element → Form → Value
 formed read e ByMembers = by_members (lang_of e) [] (map (element_member read) (elements_of e))
 formed read e (ByContainer c) = value (Array (kind_of (name_of c)) (map read (elements_of c))) (lang_of e)
 formed read e (ByNode n) = by_members (lang_of e) (type_of (name_of n)) (node_members n ++ map (element_member read) (elements_of n))
-formed read e ByAttributes = by_attributes (lang_of e) (map attribute_member (own_attributes e)) (attribute_value (rdf (codes "value")) e) (attribute_value (rdf (codes "resource")) e)
+formed read e ByAttributes = by_attributes e
 formed read e ByText = value (Simple (own_text e)) (lang_of e)
 formed read e NoForm = plain []
 

@@ -1,13 +1,13 @@
 -- The elements that have a role, in the order of the document (ISO 16684-1, 7.3 and 7.4).
 use Rattle.std.specs.Prelude.{ℕ, zero, suc, ◌+◌, Bool, false, not, ◌||◌, if◌then◌else◌, List, [], ◌∷◌, ◌++◌, codes}
-use Rattle.std.specs.List.{flat_map, list_any}
+use Rattle.std.specs.List.{flat_map}
 use Rattle.xml_grammar.specs.declared.elements.Element.{Element}
 use Rattle.rdf_forms.specs.declared.roles.Role.{Role}
 use Rattle.rdf_forms.specs.declared.roles.Role.TheVariants as roles
 use Rattle.rdf_forms.specs.declared.roles.Holder.{Holder}
 use Rattle.rdf_forms.specs.declared.roles.Holder.TheVariants as holders
-use Rattle.rdf_forms.specs.Words.{rdf, is_rdf}
-use Rattle.rdf_forms.specs.Parts.{name_of, elements_of, has_attribute}
+use Rattle.rdf_forms.specs.Words.{is_rdf}
+use Rattle.rdf_forms.specs.Parts.{name_of, elements_of, has_attribute, has_element}
 use Rattle.rdf_forms.specs.Forms.{Form, ByMembers, ByContainer, ByNode, ByAttributes, ByText, NoForm, form_of}
 
 -- An element with its role. The depth is that of the property or item that it is, or that holds it; a top has the tops before it.
@@ -20,18 +20,22 @@ pub record Visit : Type 0 where
 abbrev pub visit : Role → ℕ → Element → Visit
 visit role depth e = record { role = role; depth = depth; element = e; earlier = [] }
 
-abbrev pub has_value_element : Element → Bool
-has_value_element e = list_any (λ c. is_rdf (codes "value") (name_of c)) (elements_of e)
-
 -- is `rdf:value` a member of this node
-abbrev pub has_value_member : Element → Bool
-has_value_member n = has_attribute (rdf (codes "value")) n || has_value_element n
+unfoldable pub has_value_member : Element → Bool
+has_value_member n = has_attribute (is_rdf (codes "value")) n || has_element (is_rdf (codes "value")) n
 
-abbrev pub is_typed : Element → Bool
+unfoldable pub is_typed : Element → Bool
 is_typed n = not (is_rdf (codes "Description") (name_of n))
 
+-- what holds the members of a property or item with `rdf:parseType="Resource"`, and those of a node
+unfoldable pub members_holder : Element → Holder
+members_holder e = holders.Value (has_element (is_rdf (codes "value")) e) false
+
+unfoldable pub node_holder : Element → Holder
+node_holder n = holders.Value (has_value_member n) (is_typed n)
+
 -- A member is one deeper than what holds it, but `rdf:value` is as deep.
-abbrev pub member_depth : ℕ → Element → ℕ
+unfoldable pub member_depth : ℕ → Element → ℕ
 member_depth depth c = if is_rdf (codes "value") (name_of c) then depth else depth + 1
 
 -- the elements with a role in each of these members, by those in a property
@@ -43,9 +47,9 @@ item_visits inside depth es = flat_map (λ c. inside roles.Item (depth + 1) c) e
 
 -- the elements with a role inside a property or item of this form
 abbrev pub form_visits : (Role → ℕ → Element → List Visit) → ℕ → Element → Form → List Visit
-form_visits inside depth e ByMembers = member_visits inside (holders.Value (has_value_element e) false) depth (elements_of e)
+form_visits inside depth e ByMembers = member_visits inside (members_holder e) depth (elements_of e)
 form_visits inside depth e (ByContainer c) = visit roles.Container depth c ∷ item_visits inside depth (elements_of c)
-form_visits inside depth e (ByNode n) = visit roles.Node depth n ∷ member_visits inside (holders.Value (has_value_member n) (is_typed n)) depth (elements_of n)
+form_visits inside depth e (ByNode n) = visit roles.Node depth n ∷ member_visits inside (node_holder n) depth (elements_of n)
 form_visits inside depth e ByAttributes = []
 form_visits inside depth e ByText = []
 form_visits inside depth e NoForm = []

@@ -2,34 +2,41 @@
 use Rattle.std.specs.Prelude.{ℕ, Bool, not, ◌&&◌, ◌||◌, List, [], codes}
 use Rattle.std.specs.Str.{bytes_eq}
 use Rattle.xmp_values.specs.declared.text.Name.{Name}
-use Rattle.xmp_values.specs.Spaces.{xml_space, rdf_space, meta_space}
+unfoldable pub use Rattle.xmp_values.specs.Spaces.{xml_space, rdf_space, meta_space}
 
-abbrev pub same_name : Name → Name → Bool
+unfoldable pub same_name : Name → Name → Bool
 same_name m n = bytes_eq m.space n.space && bytes_eq m.local n.local
 
 -- the name of RDF's namespace with this local part
 abbrev pub rdf : List ℕ → Name
 rdf local = record { space = rdf_space; local = local }
 
-abbrev pub is_rdf : List ℕ → Name → Bool
-is_rdf local name = same_name name (rdf local)
+unfoldable pub is_rdf : List ℕ → Name → Bool
+is_rdf local name = bytes_eq name.space rdf_space && bytes_eq name.local local
 
 -- `x:xmpmeta`, or `x:xapmeta` of older files
-abbrev pub is_meta : Name → Bool
+unfoldable pub is_meta : Name → Bool
 is_meta name = bytes_eq name.space meta_space && (bytes_eq name.local (codes "xmpmeta") || bytes_eq name.local (codes "xapmeta"))
 
-abbrev pub is_container : Name → Bool
+unfoldable pub is_container : Name → Bool
 is_container name = is_rdf (codes "Bag") name || is_rdf (codes "Seq") name || is_rdf (codes "Alt") name
 
-abbrev pub in_rdf : Name → Bool
+unfoldable pub in_rdf : Name → Bool
 in_rdf name = bytes_eq name.space rdf_space
 
-abbrev pub in_xml : Name → Bool
+unfoldable pub in_xml : Name → Bool
 in_xml name = bytes_eq name.space xml_space
 
-abbrev pub in_none : Name → Bool
+unfoldable pub in_none : Name → Bool
 in_none name = bytes_eq name.space []
 
+unfoldable pub is_lang : Name → Bool
+is_lang name = in_xml name && bytes_eq name.local (codes "lang")
+
+-- the name `about` without namespace, of older files
+unfoldable pub is_bare_about : Name → Bool
+is_bare_about name = in_none name && bytes_eq name.local (codes "about")
+
 -- a name of a property attribute, which has a namespace other than RDF's and XML's
-abbrev pub is_own : Name → Bool
+unfoldable pub is_own : Name → Bool
 is_own name = not (in_none name) && not (in_rdf name) && not (in_xml name)

@@ -17,7 +17,7 @@ use Rattle.xmp_tree.specs.Wf.{name_of, value_of as value_in}
 use Rattle.xmp_tree.proofs.Made.{name-member, value-member}
 use Rattle.plain_xml.specs.Plain.{Property}
 use Rattle.plain_xml.specs.PlainDocument.{named, dc_space}
-use Rattle.xmp_rdf.specs.Plain.{property_member}
+use Rattle.plain_rdf.specs.Plain.{property_member}
 use Rattle.xmp_cli.specs.Answer.{value_at}
 use Rattle.xmp_cli.specs.Found.{text_named, simple_text, same_name}
 use Rattle.xmp_cli.specs.Order.{properties_of, dc_name, name_at, value_of, followed, not_built, no_such_place}

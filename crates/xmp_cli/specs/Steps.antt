@@ -4,7 +4,7 @@ use Rattle.std.specs.declared.result.Result.{Result}
 use Rattle.xmp_values.specs.declared.faults.Fault.{Fault}
 use Rattle.xmp_tree.specs.declared.nested.Member.{Member}
 use Rattle.plain_xml.specs.Plain.{Property}
-use Rattle.xmp_rdf.specs.Plain.{property_member}
+use Rattle.plain_rdf.specs.Plain.{property_member}
 use Rattle.xmp_cli.specs.Order.{no_such_place}
 use Rattle.xmp_cli.specs.declared.stop.Stop.{Stop}
 use Rattle.xmp_cli.specs.declared.stop.Stop.TheVariants.{Fault as Stopped, Memory}

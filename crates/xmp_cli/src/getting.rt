@@ -17,7 +17,7 @@ use crate::stop::Stop;
 use plain_xml::{XmlStop, read};
 use std::alloc::Global;
 use xmp_base::{Desk, Failed, ReadStop, Sink, read_all};
-use xmp_rdf::tree_of;
+use plain_rdf::tree_of;
 use xmp_tree::{Member, Members};
 use xmp_values::{Bytes, Memory, Name, Text};
 

@@ -4,11 +4,11 @@ use Rattle.xmp_tree.specs.Parts.{Parts}
 use Rattle.xmp_tree.specs.Wf.{Wf}
 use Rattle.plain_xml.specs.Plain.{head}
 use Rattle.plain_xml.specs.PlainDocument.{description, property_children}
-use Rattle.xmp_rdf.specs.Plain.{property_member, tree_of, places_from}
-use Rattle.xmp_rdf.specs.Children.{properties_in, places_in}
-use Rattle.xmp_rdf.proofs.RootShape.{found_children, root_of-packet, properties_in-description, places_in-description}
-use Rattle.xmp_rdf.proofs.FormedLaws.{formed_plain}
-use Rattle.xmp_rdf.proofs.plain.tree_of.Goals as goal
+use Rattle.plain_rdf.specs.Plain.{property_member, tree_of, places_from}
+use Rattle.plain_rdf.specs.Children.{properties_in, places_in}
+use Rattle.plain_rdf.proofs.RootShape.{found_children, root_of-packet, properties_in-description, places_in-description}
+use Rattle.plain_rdf.proofs.FormedLaws.{formed_plain}
+use Rattle.plain_rdf.proofs.plain.tree_of.Goals as goal
 
 pub returns-in_default-clause-memory : goal.returns-in_default-clause-memory
 returns-in_default-clause-memory c =

@@ -12,8 +12,8 @@ use Rattle.xml_grammar.specs.declared.elements.Element.{Element, out-Element, ou
 use Rattle.xmp_tree.specs.Parts.{member, simple}
 use Rattle.plain_xml.specs.Plain.{Property, line, head, meta_tag, rdf_tag}
 use Rattle.plain_xml.specs.PlainDocument.{named, element, around, packet, rdf_space, meta_space, about, description, property_element, property_children, line_break, content, dc_space, root_of}
-use Rattle.xmp_rdf.specs.Plain.{property_member, places_from}
-use Rattle.xmp_rdf.specs.Children.{element_at, text_at, text_in, property_in, property_at, properties_in, place_at, places_in}
+use Rattle.plain_rdf.specs.Plain.{property_member, places_from}
+use Rattle.plain_rdf.specs.Children.{element_at, text_at, text_in, property_in, property_at, properties_in, place_at, places_in}
 
 abbrev pub rdf_of : Element → Element
 rdf_of d = element (length meta_tag) (named rdf_space (codes "RDF")) [] (around d)

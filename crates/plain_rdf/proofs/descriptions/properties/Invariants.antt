@@ -1,6 +1,6 @@
 use Rattle.std.proofs.Common.{◌≡◌, take}
-use Rattle.xmp_rdf.specs.Children.{properties_in, places_in}
-use Rattle.xmp_rdf.proofs.descriptions.properties.Given as goal
+use Rattle.plain_rdf.specs.Children.{properties_in, places_in}
+use Rattle.plain_rdf.proofs.descriptions.properties.Given as goal
 
 abbrev pub invariant-loop-child : goal.invariant-loop-child
 invariant-loop-child l =

@@ -12,7 +12,7 @@ pub enum RdfStop {
 }
 
 impl From<Memory> for RdfStop {
-    ghost use Rattle.xmp_rdf.specs.declared.stops.RdfStop.TheVariants as stop;
+    ghost use Rattle.plain_rdf.specs.declared.stops.RdfStop.TheVariants as stop;
 
     ghost from_gives = { λ _ e. e ≡ stop.Memory };
 

@@ -1,10 +1,10 @@
 use Rattle.std.proofs.Common.{◌∙◌, ◌++◌, ◌∷◌, [], ap, sym, Some, None}
 use Rattle.std.proofs.lemmas.List.{append-nil}
 use Rattle.xml_grammar.specs.declared.elements.Element.{out-Element}
-use Rattle.xmp_rdf.specs.Children.{property_in, property_at, place_at}
-use Rattle.xmp_rdf.proofs.RootShape.{filter_map-more, property_at-element, property_at-text, place_at-element, place_at-text}
-use Rattle.xmp_rdf.proofs.descriptions.properties.Goals.{in-Element+in_ok-property+in_ok-push+in_ok-push-2, in_default}
-use Rattle.xmp_rdf.proofs.descriptions.properties.Goals as goal
+use Rattle.plain_rdf.specs.Children.{property_in, property_at, place_at}
+use Rattle.plain_rdf.proofs.RootShape.{filter_map-more, property_at-element, property_at-text, place_at-element, place_at-text}
+use Rattle.plain_rdf.proofs.descriptions.properties.Goals.{in-Element+in_ok-property+in_ok-push+in_ok-push-2, in_default}
+use Rattle.plain_rdf.proofs.descriptions.properties.Goals as goal
 
 pub loop-child-preserved : goal.loop-child-preserved
 loop-child-preserved c =

@@ -4,7 +4,7 @@ use Rattle.xmp_tree.specs.declared.nested.Member.{Member}
 use Rattle.xmp_tree.specs.Parts.{Parts, member, simple}
 use Rattle.plain_xml.specs.Plain.{Property, line, head}
 use Rattle.plain_xml.specs.PlainDocument.{named, dc_space}
-use Rattle.xmp_rdf.specs.declared.meanings.Meaning.{Meaning}
+use Rattle.plain_rdf.specs.declared.meanings.Meaning.{Meaning}
 
 -- a simple property of Dublin Core
 abbrev pub property_member : Property → Member

@@ -1,8 +1,8 @@
 ghost use Rattle.std.specs.Prelude.{◌≡◌, List, IfOk, OnErr, IfErr};
 ghost use Rattle.plain_xml.specs.Plain.{Property};
 ghost use Rattle.plain_xml.specs.PlainDocument.{root_of};
-ghost use Rattle.xmp_rdf.specs.Plain.{meaning_of};
-ghost use Rattle.xmp_rdf.specs.declared.stops.RdfStop.TheVariants as stop;
+ghost use Rattle.plain_rdf.specs.Plain.{meaning_of};
+ghost use Rattle.plain_rdf.specs.declared.stops.RdfStop.TheVariants as stop;
 
 use crate::descriptions::{description_of, properties};
 use crate::meanings::Meaning;

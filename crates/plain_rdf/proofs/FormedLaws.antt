@@ -19,7 +19,7 @@ use Rattle.xmp_tree.specs.Wf.{name_of, IsOwnSpace, IsWfMember, member_depth, rdf
 use Rattle.xmp_tree.proofs.Made.{name-member, formed_member, depth-member, formed_simple, depth-simple, formed_tree}
 use Rattle.plain_xml.specs.Plain.{Property, IsProperty, ArePlain, is_letter, is_plain}
 use Rattle.plain_xml.specs.PlainDocument.{named, dc_space}
-use Rattle.xmp_rdf.specs.Plain.{property_member, tree_of}
+use Rattle.plain_rdf.specs.Plain.{property_member, tree_of}
 
 -- bytes that pass a test which implies another one below 128
 abbrev implies : (ℕ → Bool) → (ℕ → Bool) → ℕ → Bool

@@ -1,6 +1,6 @@
 use Rattle.std.proofs.Common.{◌≡◌}
-use Rattle.xmp_rdf.proofs.RootShape.{rdf_of, children-packet, children-rdf}
-use Rattle.xmp_rdf.proofs.descriptions.description_of.Goals as goal
+use Rattle.plain_rdf.proofs.RootShape.{rdf_of, children-packet, children-rdf}
+use Rattle.plain_rdf.proofs.descriptions.description_of.Goals as goal
 
 pub returns-in_err-inner : goal.returns-in_err-inner
 returns-in_err-inner c = λ d same. let e = c.in_err-inner.ensures (rdf_of d) (children-packet c.args.root.now d same) in absurd (cc)

@@ -4,8 +4,8 @@ ghost use Rattle.std.specs.Option.{option_copied};
 ghost use Rattle.xml_grammar.specs.declared.elements.Element.{Element, out-Element};
 ghost use Rattle.xmp_tree.specs.Parts.{simple};
 ghost use Rattle.plain_xml.specs.PlainDocument.{around, packet};
-ghost use Rattle.xmp_rdf.specs.Plain.{property_member};
-ghost use Rattle.xmp_rdf.specs.Children.{text_in, property_in, properties_in, places_in};
+ghost use Rattle.plain_rdf.specs.Plain.{property_member};
+ghost use Rattle.plain_rdf.specs.Children.{text_in, property_in, properties_in, places_in};
 
 use crate::meanings::Places;
 use std::alloc::Global;
