@@ -6,5 +6,10 @@
 #![tactic(auto)]
 
 mod roles;
+mod words;
 
 pub use roles::{Holder, Role};
+pub use words::{
+    in_none, in_rdf, in_xml, is_bare_about, is_container, is_lang, is_meta, is_own, is_rdf,
+    same_name,
+};
