@@ -1,0 +1,12 @@
+//! The canonical text of property trees, packets, and the lines that show a tree.
+//!
+//! It promises the text of a tree by its definition, byte for byte: the prefixes of the namespaces
+//! that are written, and the lines of the command `tree`. It stands on the trees of `xmp_tree`.
+//! XMP's RDF/XML is ISO 16684-1, clause 7.
+#![tactic(auto)]
+
+mod packets;
+#[cfg(test)]
+mod tests;
+
+pub use packets::{Packet, PacketInfo};
