@@ -1,1 +1,4 @@
 pub mod Packets
+pub mod Written
+pub mod Prefixes
+pub mod Lines

@@ -5,8 +5,10 @@
 //! XMP's RDF/XML is ISO 16684-1, clause 7.
 #![tactic(auto)]
 
+mod forms;
 mod packets;
 #[cfg(test)]
 mod tests;
 
+pub use forms::Form;
 pub use packets::{Packet, PacketInfo};
