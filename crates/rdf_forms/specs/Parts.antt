@@ -1,5 +1,5 @@
 -- The parts of an element: its attributes, its child elements and its own text. Comments and instructions are in none of them.
-use Rattle.std.specs.Prelude.{ℕ, Bool, List, [], Option, Some, None, option_map, find, filter}
+use Rattle.std.specs.Prelude.{ℕ, Bool, false, List, [], Option, Some, None, option_map, find, filter}
 use Rattle.std.specs.List.{list_all, list_any, filter_map, flat_map}
 use Rattle.xmp_values.specs.Characters.{is_blank}
 use Rattle.xmp_values.specs.declared.text.Name.{Name}
@@ -33,6 +33,11 @@ element_at c = element_in (out-Child c)
 
 abbrev pub text_at : Child → List ℕ
 text_at c = text_in (out-Child c)
+
+-- is it an element, and one that passes
+abbrev pub passes : (Element → Bool) → Option Element → Bool
+passes test (Some e) = test e
+passes test None = false
 
 -- the elements among children, in their order
 abbrev pub elements_in : List Child → List Element

@@ -5,9 +5,15 @@
 //! `xmp_tree`. ISO 16684-1, clause 7; RDF/XML Syntax.
 #![tactic(auto)]
 
+mod parts;
 mod roles;
 mod words;
 
+pub use parts::{
+    as_element, bare_about_value, element_count, first_element, has_bare_about, has_blank_text,
+    has_lang, has_other_attribute, has_own_attribute, has_rdf_attribute, has_rdf_element,
+    lang_value, rdf_element_count, rdf_value,
+};
 pub use roles::{Holder, Role};
 pub use words::{
     in_none, in_rdf, in_xml, is_bare_about, is_container, is_lang, is_meta, is_own, is_rdf,
