@@ -1,2 +1,5 @@
 pub mod Words
 pub mod Unbroken
+pub mod Elements
+pub mod Lists
+pub mod Qualifiers
