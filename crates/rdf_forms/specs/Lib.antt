@@ -1,6 +1,7 @@
 pub mod Words
 pub mod Parts
 pub mod Forms
+pub mod FormViews
 pub mod Values
 pub mod Visits
 pub mod NameRules
