@@ -1,0 +1,9 @@
+//! Reads RDF/XML: a document to the tree of its properties.
+//!
+//! The values of elements are given by their forms, and the walk through the tops gives the
+//! tree, the places of its properties and the first rule that is broken. It stands on the
+//! roles and forms of `rdf_forms`, and on the documents of `xmp_xml`.
+//! ISO 16684-1, 7.3 to 7.9; RDF/XML Syntax.
+#![tactic(auto)]
+
+mod values;
