@@ -6,11 +6,13 @@
 #![tactic(auto)]
 
 mod forms;
+mod name_rules;
 mod parts;
 mod roles;
 mod words;
 
 pub use forms::{Form, form_of, has_parse_type, is_resource};
+pub use name_rules::{about_of, name_rule};
 pub use parts::{
     as_element, bare_about_value, element_count, first_element, has_bare_about, has_blank_text,
     has_lang, has_other_attribute, has_own_attribute, has_rdf_attribute, has_rdf_element,
