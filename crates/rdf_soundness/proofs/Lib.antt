@@ -3,3 +3,4 @@ pub mod Unbroken
 pub mod Elements
 pub mod Lists
 pub mod Qualifiers
+pub mod Attributes

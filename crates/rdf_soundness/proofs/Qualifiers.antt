@@ -1,5 +1,5 @@
 -- Qualifiers: `xml:lang`, a node's type, and the others behind them.
-use Rattle.std.proofs.Common.{◌≡◌, ℕ, suc, zero, ◌≤◌, ◌+◌, ◌⊎◌, inl, inr, List, [], ◌∷◌, ◌++◌, ap, sym, subst, ◌∙◌, arith}
+use Rattle.std.proofs.Common.{◌≡◌, ℕ, suc, zero, ◌≤◌, ◌+◌, ◌⊎◌, inl, inr, List, [], ◌∷◌, ◌++◌, ap, sym, subst, ◌∙◌, append-nil, arith}
 use Rattle.std.specs.Prelude.{All}
 use Rattle.std.proofs.lemmas.List.Elements.{All-nil, All-cons, All-get_or, All-weaker}
 use Rattle.xmp_values.specs.Characters.{IsCharText}
@@ -67,6 +67,9 @@ pub tagged : (room : ℕ) (lang rest : List Member) → IsTag room lang → All 
 tagged room lang rest (inl is) none h = subst (λ q. AreWellFormedQualifiers room (q ++ rest)) (sym is) h
 tagged room lang rest (inr (tag, is, chars, some)) none h =
     subst (λ q. AreWellFormedQualifiers room (q ++ rest)) (sym is) (tag_front room tag rest chars some none h)
+
+pub tagged_alone : (room : ℕ) (lang : List Member) → IsTag room lang → AreWellFormedQualifiers room lang
+tagged_alone room lang tag = subst (AreWellFormedQualifiers room) (append-nil lang) (tagged room lang [] tag (All-nil IsNoLang) (formed_quals_none room))
 
 -- ---- the type of a node
 
