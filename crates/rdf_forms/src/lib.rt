@@ -9,6 +9,7 @@ mod forms;
 mod name_rules;
 mod parts;
 mod roles;
+mod visits;
 mod words;
 
 pub use forms::{Form, form_of, has_parse_type, is_resource};
@@ -19,6 +20,7 @@ pub use parts::{
     lang_value, rdf_element_count, rdf_value,
 };
 pub use roles::{Holder, Role};
+pub use visits::{has_value_member, is_typed, members_holder, node_holder};
 pub use words::{
     in_none, in_rdf, in_xml, is_bare_about, is_container, is_lang, is_meta, is_own, is_rdf,
     same_name,
