@@ -4,3 +4,4 @@ pub mod Elements
 pub mod Lists
 pub mod Qualifiers
 pub mod Attributes
+pub mod Composed
