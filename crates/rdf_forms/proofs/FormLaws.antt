@@ -1,8 +1,12 @@
 -- The form by the first child element and the number of them.
-use Rattle.std.proofs.Common.{◌≡◌, ◌<◌, ◌≤◌, Bool, true, false, List, [], ◌∷◌, length, refl, ap, arith}
-use Rattle.std.specs.Prelude.{Some, None, slice_get}
+use Rattle.std.proofs.Common.{◌≡◌, ◌<◌, ◌≤◌, ◌&&◌, ◌||◌, Bool, true, false, List, [], ◌∷◌, length, refl, ap, arith}
+use Rattle.std.specs.Prelude.{Some, None, slice_get, codes}
 use Rattle.xml_grammar.specs.declared.elements.Element.{Element}
-use Rattle.rdf_forms.specs.Forms.{NoForm, childless_form, child_form, form_by}
+use Rattle.xml_grammar.specs.declared.elements.Attribute.{Attribute}
+use Rattle.rdf_forms.specs.Words.{is_rdf, is_own}
+use Rattle.rdf_forms.specs.FormRules.{is_form_attribute}
+use Rattle.rdf_forms.specs.FormViews.{is_by_attributes}
+use Rattle.rdf_forms.specs.Forms.{Form, ByMembers, ByContainer, ByNode, ByAttributes, ByText, NoForm, childless_form, child_form, form_by}
 
 pub form_by-none : (e : Element) (typed : Bool) (es : List Element) → None ≡ slice_get es 0 → childless_form e ≡ form_by e typed es
 form_by-none e typed [] is = refl
@@ -24,3 +28,11 @@ form_by-one e c (d ∷ []) is few = let same : c ≡ d = cc in ap child_form sam
 form_by-one e c (d ∷ f ∷ fs) is few = absurd (omega (arith, few))
 
 pub ruleset forms = (form_by-none, form_by-typed, form_by-many, form_by-one)
+
+pub is_form_attribute_by : (f : Form) (a : Attribute) → is_form_attribute f a ≡ (is_by_attributes f && (is_rdf (codes "value") a.name || is_rdf (codes "resource") a.name || is_own a.name))
+is_form_attribute_by ByAttributes a = refl
+is_form_attribute_by ByMembers a = refl
+is_form_attribute_by (ByContainer c) a = refl
+is_form_attribute_by (ByNode n) a = refl
+is_form_attribute_by ByText a = refl
+is_form_attribute_by NoForm a = refl

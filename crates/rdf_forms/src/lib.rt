@@ -5,6 +5,7 @@
 //! `xmp_tree`. ISO 16684-1, clause 7; RDF/XML Syntax.
 #![tactic(auto)]
 
+mod admission;
 mod forms;
 mod name_rules;
 mod parts;
@@ -12,6 +13,7 @@ mod roles;
 mod visits;
 mod words;
 
+pub use admission::{has_qualified_uri, has_two_values, has_value_again};
 pub use forms::{Form, form_of, has_parse_type, is_resource};
 pub use name_rules::{about_of, name_rule};
 pub use parts::{
