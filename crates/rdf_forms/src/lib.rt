@@ -6,6 +6,7 @@
 #![tactic(auto)]
 
 mod admission;
+mod form_rules;
 mod forms;
 mod name_rules;
 mod parts;
@@ -14,6 +15,7 @@ mod visits;
 mod words;
 
 pub use admission::{has_qualified_uri, has_two_values, has_value_again};
+pub use form_rules::form_rule;
 pub use forms::{Form, form_of, has_parse_type, is_resource};
 pub use name_rules::{about_of, name_rule};
 pub use parts::{
