@@ -5,3 +5,4 @@ pub mod Lists
 pub mod Qualifiers
 pub mod Attributes
 pub mod Composed
+pub mod Members

@@ -2,7 +2,7 @@
 use Rattle.std.proofs.Common.{◌≡◌, Bool, true, false, cond, ◌||◌, ◌⊎◌, inl, inr, List, [], ◌∷◌, map, Some, None, refl, ap, ◌∙◌, arith}
 use Rattle.std.specs.Prelude.{All, AllPairs, find, filter}
 use Rattle.std.specs.List.{list_any}
-use Rattle.std.proofs.lemmas.Bool.{or_parts}
+use Rattle.std.proofs.lemmas.Bool.{or_parts, both_ways}
 use Rattle.std.proofs.lemmas.List.{get_or-map, length-map}
 use Rattle.std.proofs.lemmas.List.Elements.{All-nil, All-cons, All-head, All-tail}
 
@@ -51,3 +51,16 @@ pairs_from_map R f xs h i j d lt within =
     let first = get_or-map f xs i d (f d) (omega arith) in
     let second = get_or-map f xs j d (f d) within in
     rw (← first, ← second) (h i j (f d) lt (omega (arith, length-map xs f)))
+
+pub list_any_same : {X : Type 0} (p q : X → Bool) → ((x : X) → p x ≡ q x) → (xs : List X) → list_any p xs ≡ list_any q xs
+list_any_same p q same [] = refl
+list_any_same p q same (x ∷ xs) = ap (λ b. b || list_any p xs) (same x) ∙ ap (λ b. q x || b) (list_any_same p q same xs)
+
+-- what holds of all that a filter keeps
+pub from_filter : {X : Type 0} (p : X → Bool) (P : X → Type 0) (xs : List X) → All P (filter p xs) → All (λ x. p x ≡ true → P x) xs
+from_filter p P [] h = All-nil (λ x. p x ≡ true → P x)
+from_filter {X} p P (x ∷ xs) h = by (p x) refl h (from_filter p P xs)
+  where
+    by : (b : Bool) → p x ≡ b → All P (cond b (x ∷ filter p xs) (filter p xs)) → (All P (filter p xs) → All (λ y. p y ≡ true → P y) xs) → All (λ y. p y ≡ true → P y) (x ∷ xs)
+    by true is h rest = All-cons (λ y. p y ≡ true → P y) x xs (λ passes. All-head P x (filter p xs) h) (rest (All-tail P x (filter p xs) h))
+    by false is h rest = All-cons (λ y. p y ≡ true → P y) x xs (λ passes. absurd (both_ways (p x) is passes)) (rest h)
