@@ -1,3 +1,4 @@
+pub mod Texts
 pub mod Packets
 pub mod Written
 pub mod Prefixes

@@ -6,9 +6,11 @@
 #![tactic(auto)]
 
 mod forms;
+mod known;
 mod packets;
 #[cfg(test)]
 mod tests;
+mod uses;
 
 pub use forms::Form;
 pub use packets::{Packet, PacketInfo};
