@@ -6,3 +6,6 @@ pub mod Qualifiers
 pub mod Attributes
 pub mod Composed
 pub mod Members
+pub mod NameTexts
+pub mod MemberNames
+pub mod FormFacts

@@ -56,7 +56,7 @@ roomy depth e h =
 
 -- ---- attributes of a node
 
-value-attribute : (a : Attribute) → is_value_member (attribute_member a) ≡ is_rdf (codes "value") a.name
+pub value-attribute : (a : Attribute) → is_value_member (attribute_member a) ≡ is_rdf (codes "value") a.name
 unfolding is_value_member
 value-attribute a = ap (is_rdf (codes "value")) (name-member a.name (plain a.value))
 
