@@ -6,4 +6,6 @@
 //! ISO 16684-1, 7.3 to 7.9; RDF/XML Syntax.
 #![tactic(auto)]
 
+mod members;
+mod texts;
 mod values;
