@@ -1,5 +1,5 @@
 -- Attributes as members, and the value by attributes.
-use Rattle.std.proofs.Common.{◌≡◌, ◌≢◌, ℕ, ◌≤◌, Bool, true, false, ◌⊎◌, inl, inr, List, [], ◌++◌, map, get_or, Option, Some, None, ap, sym, subst, ◌∙◌, arith}
+use Rattle.std.proofs.Common.{◌≡◌, ◌≢◌, ℕ, ◌≤◌, Bool, true, false, ◌⊎◌, inl, inr, ⊎_elim, List, [], ◌++◌, map, get_or, Option, Some, None, ap, sym, subst, ◌∙◌, append-nil, arith}
 use Rattle.std.specs.Prelude.{All, AllPairs, option_map, codes}
 use Rattle.std.proofs.lemmas.Bool.{both_ways}
 use Rattle.std.proofs.lemmas.List.{get_or-map, length-map}
@@ -12,6 +12,7 @@ use Rattle.xml_grammar.specs.declared.elements.Attribute.{Attribute}
 use Rattle.xml_grammar.specs.declared.elements.Element.{Element}
 use Rattle.xml_grammar.specs.Sound.{IsSoundAttribute, IsSound}
 use Rattle.xmp_tree.specs.declared.nested.Member.{Member}
+use Rattle.xmp_tree.specs.declared.nested.Value.{out-Value}
 use Rattle.xmp_tree.specs.declared.nested.Shape.{Simple, Uri, Struct}
 use Rattle.xmp_tree.specs.Wf.{name_of, NamesDiffer, IsOwnSpace, IsWfMember, member_depth, AreWellFormed, IsQualifier, lang_name}
 use Rattle.xmp_tree.proofs.Made.{name-member, formed_member, depth-member, formed_simple, depth-simple, other_qualifier}
@@ -20,8 +21,8 @@ use Rattle.rdf_forms.specs.Words.{is_rdf, is_lang, is_own}
 use Rattle.rdf_forms.specs.Parts.{attributes_of, own_attributes, attribute_value, has_attribute}
 use Rattle.rdf_forms.specs.Values.{plain, attribute_member, lang_member, listed, lang_of, attributed, by_attributes}
 use Rattle.rdf_soundness.proofs.Words.{IsOutside, own_outside, own_space, sound_named}
-use Rattle.rdf_soundness.proofs.Lists.{Found, found}
-use Rattle.rdf_soundness.proofs.Qualifiers.{IsFit, fit_value, IsNoLang, IsTag, tagged, tagged_alone, AreTaglessQualifiers}
+use Rattle.rdf_soundness.proofs.Lists.{Found, found, none_pass, filter_none}
+use Rattle.rdf_soundness.proofs.Qualifiers.{IsFit, fit_value, quals-value, IsNoLang, IsTag, tagged, tagged_alone, AreTaglessQualifiers}
 
 -- ---- the value of an attribute
 
@@ -173,3 +174,22 @@ attributes_fit room e sound lang own =
     attributed_fit room (lang_of e) (map attribute_member (own_attributes e)) (attribute_value (is_rdf (codes "value")) e)
     (attribute_value (is_rdf (codes "resource")) e) (lang_tag room e sound lang) (own_formed room e sound own)
     (text_of (is_rdf (codes "value")) e sound) (text_of (is_rdf (codes "resource")) e sound)
+
+-- without `rdf:value`, and without `rdf:resource` or property attributes, its qualifiers are `xml:lang`
+none_own : (e : Element) → has_attribute is_own e ≡ false → own_attributes e ≡ []
+none_own e h = filter_none (Passes is_own) (attributes_of e) (none_pass (Passes is_own) (attributes_of e) h)
+
+bare_by : (lang : List Member) (xs : List Attribute) (uri : Option (List ℕ)) → (uri ≡ None) ⊎ (xs ≡ []) → (out-Value (attributed lang (map attribute_member xs) None uri)).quals ≡ lang
+bare_by lang xs None h = quals-value (Struct (map attribute_member xs)) lang
+bare_by lang xs (Some uri) (inl none) = absurd cc
+bare_by lang xs (Some uri) (inr none) =
+    quals-value (Uri uri) (lang ++ map attribute_member xs) ∙ ap (λ ys. lang ++ map attribute_member ys) none ∙ append-nil lang
+
+pub attributes_bare : (e : Element) → IsSound e → has_attribute (is_rdf (codes "value")) e ≡ false
+    → (has_attribute (is_rdf (codes "resource")) e ≡ false) ⊎ (has_attribute is_own e ≡ false) → (out-Value (by_attributes e)).quals ≡ lang_of e
+unfolding by_attributes
+attributes_bare e sound none one =
+    ap (λ o. (out-Value (attributed (lang_of e) (map attribute_member (own_attributes e)) o (attribute_value (is_rdf (codes "resource")) e))).quals)
+    (no_value (is_rdf (codes "value")) e sound none)
+    ∙ bare_by (lang_of e) (own_attributes e) (attribute_value (is_rdf (codes "resource")) e)
+    (⊎_elim (λ no_uri. inl (no_value (is_rdf (codes "resource")) e sound no_uri)) (λ no_own. inr (none_own e no_own)) one)

@@ -9,3 +9,7 @@ pub mod Members
 pub mod NameTexts
 pub mod MemberNames
 pub mod FormFacts
+pub mod TypeElements
+pub mod Nodes
+pub mod Children
+pub mod Values
