@@ -175,7 +175,6 @@ attributes_fit room e sound lang own =
     (attribute_value (is_rdf (codes "resource")) e) (lang_tag room e sound lang) (own_formed room e sound own)
     (text_of (is_rdf (codes "value")) e sound) (text_of (is_rdf (codes "resource")) e sound)
 
--- without `rdf:value`, and without `rdf:resource` or property attributes, its qualifiers are `xml:lang`
 none_own : (e : Element) → has_attribute is_own e ≡ false → own_attributes e ≡ []
 none_own e h = filter_none (Passes is_own) (attributes_of e) (none_pass (Passes is_own) (attributes_of e) h)
 
@@ -185,6 +184,7 @@ bare_by lang xs (Some uri) (inl none) = absurd cc
 bare_by lang xs (Some uri) (inr none) =
     quals-value (Uri uri) (lang ++ map attribute_member xs) ∙ ap (λ ys. lang ++ map attribute_member ys) none ∙ append-nil lang
 
+-- without `rdf:value`, and without `rdf:resource` or property attributes, its one qualifier is `xml:lang`
 pub attributes_bare : (e : Element) → IsSound e → has_attribute (is_rdf (codes "value")) e ≡ false
     → (has_attribute (is_rdf (codes "resource")) e ≡ false) ⊎ (has_attribute is_own e ≡ false) → (out-Value (by_attributes e)).quals ≡ lang_of e
 unfolding by_attributes

@@ -52,7 +52,7 @@ elements_apart read e h =
 -- without `rdf:value` the attributes that are members are the property attributes
 node_names : (xs : List Attribute) → other_names (attribute_names (filter is_node_member xs)) ≡ other_names (attribute_names (filter (λ (a : Attribute). is_own a.name) xs))
 node_names [] = refl
-node_names (a ∷ xs) = by (is_own a.name) (is_rdf (codes "value") a.name) (λ own. outside_not_rdf (codes "value") a.name (own_outside a.name own)) refl refl (node_names xs)
+node_names (a ∷ xs) = by (is_own a.name) (is_rdf (codes "value") a.name) (λ own. outside_not_rdf (codes "value") a.name (own_outside a.name own)) refl (node_names xs)
   where
     node : List Attribute
     node = filter is_node_member xs
@@ -60,12 +60,12 @@ node_names (a ∷ xs) = by (is_own a.name) (is_rdf (codes "value") a.name) (λ o
     own : List Attribute
     own = filter (λ (a : Attribute). is_own a.name) xs
 
-    by : (o v : Bool) → (o ≡ true → v ≡ false) → is_rdf (codes "value") a.name ≡ v → v ≡ v → other_names (attribute_names node) ≡ other_names (attribute_names own)
+    by : (o v : Bool) → (o ≡ true → v ≡ false) → is_rdf (codes "value") a.name ≡ v → other_names (attribute_names node) ≡ other_names (attribute_names own)
         → other_names (attribute_names (cond (o || v) (a ∷ node) node)) ≡ other_names (attribute_names (cond o (a ∷ own) own))
-    by true v tells is again rest = ap (λ ns. cond (not (is_rdf (codes "value") a.name)) (a.name ∷ ns) ns) rest
-    by false true tells is again rest =
+    by true v tells is rest = ap (λ ns. cond (not (is_rdf (codes "value") a.name)) (a.name ∷ ns) ns) rest
+    by false true tells is rest =
         ap (λ b. cond (not b) (a.name ∷ other_names (attribute_names node)) (other_names (attribute_names node))) is ∙ rest
-    by false false tells is again rest = rest
+    by false false tells is rest = rest
 
 pub node_apart : (read : Element → Value) (n : Element) → has_again (other_names (member_names n)) ≡ false → NamesDiffer (other_members (members_of_node read n))
 unfolding member_names node_members
