@@ -12,22 +12,14 @@ use Rattle.xml_grammar.specs.Pieces.{HasPiece}
 use Rattle.xml_grammar.specs.Nesting.{Nest, mode_of}
 use Rattle.xml_grammar.specs.Documents.{IsRule}
 use Rattle.xml_grammar.proofs.Splits.{both}
-use Rattle.xml_tokenizer.specs.Classes.{is_plain}
 use Rattle.xml_tokenizer.specs.Faults.{markup_rule, rule_at}
 use Rattle.xml_tokenizer.specs.References.{reference_at}
-use Rattle.xml_tokenizer.specs.Runs.{taken, past, after, begins}
+use Rattle.xml_tokenizer.specs.Runs.{begins}
 use Rattle.xml_tokenizer.specs.Steps.{◌>>=◌}
-use Rattle.xml_tokenizer.specs.Tokens.{is_start, is_inside, markup_at, bracket_at, run_at, token_at}
+use Rattle.xml_tokenizer.specs.Tokens.{is_start, is_inside, markup_at, starts_plain, plain_front, plain_back, run_at, token_at}
 use Rattle.xml_tokenizer.specs.Values.{past_feed}
-use Rattle.xml_tokenizer.proofs.TokenLaws.{inside_is, char_plain, token_none}
-use Rattle.xml_tokenizer.proofs.Words.{after_takes, after_again}
-
-begun : (word cs : List ℕ) → begins word cs ≡ true → BeginsWith word cs
-begun word cs h = from (after word cs) refl h
-  where
-    from : (o : Option (List ℕ)) → after word cs ≡ o → is_some o ≡ true → BeginsWith word cs
-    from (Some rest) e k = (rest, after_takes word cs rest e)
-    from None e k = absurd cc
+use Rattle.xml_tokenizer.proofs.TokenLaws.{inside_is, begun, char_plain, token_none}
+use Rattle.xml_tokenizer.proofs.Words.{after_again}
 
 not_begun : (word cs : List ℕ) → begins word cs ≡ false → BeginsWith word cs → ⊥
 not_begun word cs h (rest, e) =
@@ -60,31 +52,17 @@ markup_fails s cs none = by_doctype (begins (codes "!DOCTYPE") cs) refl
     by_doctype true h = behind_less (codes "!DOCTYPE") cs (begun (codes "!DOCTYPE") cs h)
     by_doctype false h = by_comment (begins (codes "!--") cs) h refl
 
-bracket_fails : (s : Nest) (cs : List ℕ) → bracket_at (is_inside (mode_of s)) (93 ∷ cs) ≡ None → IsRule s (93 ∷ cs) BadChar
-unfolding bracket_at
-bracket_fails s cs e = by_test (is_inside (mode_of s) && begins (codes "]>") cs) refl e
-  where
-    end_of : BeginsWith (codes "]>") cs → BeginsWith (codes "]]>") (93 ∷ cs)
-    end_of (rest, h) = (rest, ap (λ (t : List ℕ). 93 ∷ t) h)
-
-    by_test : (v : Bool) → (is_inside (mode_of s) && begins (codes "]>") cs) ≡ v → cond {A = Option (Token × List ℕ)} v None (Some (tokens.Run (codes "]"), cs)) ≡ None → IsRule s (93 ∷ cs) BadChar
-    by_test true h k =
-        let both_ = both (is_inside (mode_of s)) (begins (codes "]>") cs) h in
-        inr (inside_is (mode_of s) both_.0, end_of (begun (codes "]>") cs both_.1))
-    by_test false h k = absurd cc
-
 run_fails : (s : Nest) (c : ℕ) (cs : List ℕ) → eqb c 60 ≡ false → eqb c 38 ≡ false → eqb c 13 ≡ false → run_at (is_inside (mode_of s)) (c ∷ cs) ≡ None → IsRule s (c ∷ cs) BadChar
 unfolding run_at
-run_fails s c cs less amp return e = by_plain (is_plain c) refl e
+run_fails s c cs less amp return e = by_char (is_char c) refl (is_inside (mode_of s) && begins (codes "]]>") (c ∷ cs)) refl
   where
-    by_char : (v : Bool) → is_char c ≡ v → is_plain c ≡ false → bracket_at (is_inside (mode_of s)) (c ∷ cs) ≡ None → (w : Bool) → eqb c 93 ≡ w → IsRule s (c ∷ cs) BadChar
-    by_char false h plain k w b = inl (c, cs, h, refl)
-    by_char true h plain k true b = subst (λ (d : ℕ). IsRule s (d ∷ cs) BadChar) (sym (eqb-true c 93 b)) (bracket_fails s cs (subst (λ (d : ℕ). bracket_at (is_inside (mode_of s)) (d ∷ cs) ≡ None) (eqb-true c 93 b) k))
-    by_char true h plain k false b = let bad = char_plain c (record { char = h; less = less; amp = amp; return = return; bracket = b }) in absurd cc
-
-    by_plain : (v : Bool) → is_plain c ≡ v → cond {A = Option (Token × List ℕ)} v (Some (tokens.Run (encode_utf8_all (taken is_plain (c ∷ cs))), past is_plain (c ∷ cs))) (bracket_at (is_inside (mode_of s)) (c ∷ cs)) ≡ None → IsRule s (c ∷ cs) BadChar
-    by_plain true h k = absurd cc
-    by_plain false h k = by_char (is_char c) refl h k (eqb c 93) refl
+    by_char : (u : Bool) → is_char c ≡ u → (v : Bool) → (is_inside (mode_of s) && begins (codes "]]>") (c ∷ cs)) ≡ v → IsRule s (c ∷ cs) BadChar
+    by_char false h v k = inl (c, cs, h, refl)
+    by_char true h true k = let b = both (is_inside (mode_of s)) (begins (codes "]]>") (c ∷ cs)) k in inr (inside_is (mode_of s) b.0, begun (codes "]]>") (c ∷ cs) b.1)
+    by_char true h false k =
+        let starts : starts_plain (is_inside (mode_of s)) (c ∷ cs) ≡ true = rw (char_plain c (record { char = h; less = less; amp = amp; return = return }), k) refl in
+        let bad = sym (ap (λ (v : Bool). cond {A = Option (Token × List ℕ)} v (Some (tokens.Run (encode_utf8_all (plain_front (is_inside (mode_of s)) (c ∷ cs))), plain_back (is_inside (mode_of s)) (c ∷ cs))) None) starts) ∙ e in
+        absurd cc
 
 -- the rule for a text at whose front nothing is read
 pub fails_by : (s : Nest) (cs : List ℕ) → cs ≢ [] → token_at (mode_of s) cs ≡ None → IsRule s cs (rule_at cs)

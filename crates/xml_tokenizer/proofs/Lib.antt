@@ -18,3 +18,4 @@ pub mod TokenLaws
 pub mod FaultLaws
 pub mod Found
 pub mod Sure
+pub mod PlainLaws

@@ -136,9 +136,13 @@ front_of class (c ∷ cs) h = by_size (ltb c 128) refl (both (scalar c) (all_sca
     by_size true e s f = front_low class c cs (ltb-true c 128 e) f
     by_size false e s f = front_wide class c cs (ltb-false c 128 e) (wide class c s (ltb-false c 128 e)) f
 
-scalars_behind : (front rest : List ℕ) → all_scalars (front ++ rest) ≡ true → all_scalars rest ≡ true
+pub scalars_behind : (front rest : List ℕ) → all_scalars (front ++ rest) ≡ true → all_scalars rest ≡ true
 scalars_behind [] rest h = h
 scalars_behind (c ∷ front) rest h = scalars_behind front rest (both (scalar c) (all_scalars (front ++ rest)) h).1
+
+pub scalars_before : (front rest : List ℕ) → all_scalars (front ++ rest) ≡ true → all_scalars front ≡ true
+scalars_before [] rest h = refl
+scalars_before (c ∷ front) rest h = let k = both (scalar c) (all_scalars (front ++ rest)) h in rw (k.0) (scalars_before front rest k.1)
 
 -- what is left behind the bytes that are sure
 pub record Skips (class : Class) (text : List ℕ) (n : ℕ) : Type 0 where

@@ -1,5 +1,5 @@
 -- What is read as a token stands there, and where a piece stands a token is read.
-use Rattle.std.proofs.Common.{◌≡◌, ◌≢◌, ℕ, ◌<◌, Bool, true, false, cond, eqb, ◌&&◌, ◌⊎◌, List, [], ◌∷◌, ◌++◌, map, length, Option, Some, None, refl, sym, ap, subst, ◌∙◌, append_assoc, length-append, arith, inl, inr}
+use Rattle.std.proofs.Common.{◌≡◌, ◌≢◌, ℕ, ◌<◌, Bool, true, false, cond, eqb, not, ◌&&◌, ◌⊎◌, List, [], ◌∷◌, ◌++◌, map, length, Option, Some, None, refl, sym, ap, subst, ◌∙◌, append_assoc, length-append, arith, inl, inr}
 use Rattle.std.specs.Prelude.{IsTrue, is_some, codes, encode_utf8_all}
 use Rattle.std.specs.List.{list_all}
 use Rattle.std.specs.Str.{chars, all_scalars, IsUtf8}
@@ -16,24 +16,24 @@ use Rattle.xml_grammar.specs.declared.tokens.Token.{Token}
 use Rattle.xml_grammar.specs.declared.tokens.Token.TheVariants as tokens
 use Rattle.xml_grammar.specs.Spelling.{BeginsWith, line_ends}
 use Rattle.xml_grammar.specs.Pieces.{Piece, Declaration, Instruction, Comment, Cdata, Start, End, Reference, LineEnd, Character, Spells, Fits, HasPiece, StandsRow, later, pieces_of, tag_close}
-use Rattle.xml_grammar.proofs.Splits.{both, both_again, head_same, not_both}
+use Rattle.xml_grammar.proofs.Splits.{both, both_again, cons_same, head_same, tail_same, not_both}
 use Rattle.xml_grammar.proofs.Parts.{apart, qname_starts}
 use Rattle.xml_tokenizer.specs.Classes.{is_plain}
 use Rattle.xml_tokenizer.specs.Declarations.{declaration_at}
 use Rattle.xml_tokenizer.specs.References.{reference_at}
-use Rattle.xml_tokenizer.specs.Runs.{taken, past, after, begins, starts_with}
+use Rattle.xml_tokenizer.specs.Runs.{after, begins}
 use Rattle.xml_tokenizer.specs.Sections.{comment_at, cdata_at, instruction_at}
 use Rattle.xml_tokenizer.specs.Stands.{IsBehind}
 use Rattle.xml_tokenizer.specs.Steps.{◌>>=◌, or_else}
 use Rattle.xml_tokenizer.specs.Tags.{start_at, end_at}
-use Rattle.xml_tokenizer.specs.Tokens.{is_start, is_inside, declared_at, question_at, comment_or, section_at, markup_at, bracket_at, run_at, token_at}
+use Rattle.xml_tokenizer.specs.Tokens.{is_start, is_inside, declared_at, question_at, comment_or, section_at, markup_at, starts_plain, plain_front, plain_back, run_at, token_at}
 use Rattle.xml_tokenizer.specs.Values.{past_feed}
 use Rattle.xml_grammar.proofs.OnePiece.{stands_some}
-use Rattle.xml_tokenizer.proofs.DeclarationLaws.{some_taken, declaration_takes, declaration_again}
+use Rattle.xml_tokenizer.proofs.DeclarationLaws.{declaration_takes, declaration_again}
 use Rattle.xml_tokenizer.proofs.ReferenceLaws.{reference_takes, reference_again}
 use Rattle.xml_tokenizer.proofs.SectionLaws.{comment_takes, comment_again, cdata_takes, cdata_again, instruction_takes, instruction_again}
-use Rattle.xml_tokenizer.proofs.Sought.{taken_past}
-use Rattle.xml_tokenizer.proofs.Steps.{bind_some, some_is, not_stopped, chosen, either_gave, taken_all}
+use Rattle.xml_tokenizer.proofs.PlainLaws.{plain_front_all}
+use Rattle.xml_tokenizer.proofs.Steps.{bind_some, some_is, passed, either_gave}
 use Rattle.xml_tokenizer.proofs.TagLaws.{start_takes, start_again, end_takes, end_again}
 use Rattle.xml_tokenizer.proofs.ValueLaws.{or_false, not_true}
 use Rattle.xml_tokenizer.proofs.Words.{after_takes}
@@ -175,7 +175,6 @@ pub record PlainChar (c : ℕ) : Type 0 where
   pub less : eqb c 60 ≡ false
   pub amp : eqb c 38 ≡ false
   pub return : eqb c 13 ≡ false
-  pub bracket : eqb c 93 ≡ false
 
 plain_char : (c : ℕ) → is_plain c ≡ true → PlainChar c
 unfolding is_plain
@@ -184,12 +183,11 @@ plain_char c h =
     let n = not_true _ k.1 in
     let a = or_false _ _ n in
     let b = or_false _ _ a.0 in
-    let d = or_false _ _ b.0 in
-    record { char = k.0; less = d.0; amp = d.1; return = b.1; bracket = a.1 }
+    record { char = k.0; less = b.0; amp = b.1; return = a.1 }
 
 pub char_plain : (c : ℕ) → PlainChar c → is_plain c ≡ true
 unfolding is_plain
-char_plain c p = rw (p.char, p.less, p.amp, p.return, p.bracket) refl
+char_plain c p = rw (p.char, p.less, p.amp, p.return) refl
 
 char_scalar : (c : ℕ) → is_char c ≡ true → scalar c ≡ true
 unfolding is_char
@@ -201,51 +199,62 @@ plain_scalars (c ∷ cs) h =
     let k = both (is_plain c) (list_all is_plain cs) h in
     both_again (scalar c) (all_scalars cs) (char_scalar c (plain_char c k.0).char) (plain_scalars cs k.1)
 
-run_row : (run : List ℕ) (mode : Mode) (rest : List ℕ) → IsTrue (list_all is_plain run) → StandsRow mode (map Character run) (run ++ rest) rest
-run_row [] mode rest h = refl
-run_row (c ∷ run) mode rest h =
-    let k = both (is_plain c) (list_all is_plain run) h in
-    let p = plain_char c k.0 in
-    (c ∷ [], run ++ rest, record { spelled = (p.char, eqb-false c 60 p.less, eqb-false c 38 p.amp, eqb-false c 13 p.return, refl); fits = λ inside bracket follows. eqb-false c 93 p.bracket bracket }, run_row run (later mode) rest k.1, refl)
-
-bracket_chars : chars (93 ∷ []) ≡ 93 ∷ []
-unfolding chars
-bracket_chars = refl
-
-bracket_takes : (mode : Mode) (cs : List ℕ) (x : Token × List ℕ) → bracket_at (is_inside mode) cs ≡ Some x → TakesToken mode cs x
-unfolding bracket_at is_char
-bracket_takes mode cs x e =
-    let a = bind_some (after (codes "]") cs) (λ rest. cond (is_inside mode && begins (codes "]>") rest) None (Some (tokens.Run (codes "]"), rest))) x e in
-    let g = not_stopped (is_inside mode && begins (codes "]>") a.0) (Some (tokens.Run (codes "]"), a.0)) x a.2 in
-    let at = after_takes (codes "]") cs a.0 a.1 in
-    let one : Row mode (Character 93 ∷ []) cs a.0 = row_one mode (Character 93) cs (93 ∷ []) a.0 (refl, (λ k. omega arith), (λ k. omega arith), (λ k. omega arith), refl) (λ inside same follows. stopped a.0 (inside_mode mode inside) follows g.0) at in
-    subst (TakesToken mode cs) (some_is (tokens.Run (codes "]"), a.0) x g.1) (subst (λ (t : List ℕ). Row mode (map Character t) cs a.0) (sym bracket_chars) one)
+pub begun : (word cs : List ℕ) → begins word cs ≡ true → BeginsWith word cs
+begun word cs h = from (after word cs) refl h
   where
-    stopped : (rest : List ℕ) → is_inside mode ≡ true → BeginsWith (codes "]>") rest → (is_inside mode && begins (codes "]>") rest) ≡ false → ⊥
-    stopped rest inside (more, h) e =
-        let found : begins (codes "]>") rest ≡ true = ap (begins (codes "]>")) h in
-        let bad = both_again (is_inside mode) (begins (codes "]>") rest) inside found in
-        not_both (is_inside mode && begins (codes "]>") rest) bad e
+    from : (o : Option (List ℕ)) → after word cs ≡ o → is_some o ≡ true → BeginsWith word cs
+    from (Some rest) e k = (rest, after_takes word cs rest e)
+    from None e k = absurd cc
+
+-- what stands for itself fits: inside an element no `]` of it begins `]]>`
+plain_fits : (mode : Mode) (c : ℕ) (cs : List ℕ) → (is_inside mode && begins (codes "]]>") (c ∷ cs)) ≡ false → Fits mode (Character c) (c ∷ []) cs
+plain_fits mode c cs h inside same (rest, e) =
+    let found : begins (codes "]]>") (c ∷ cs) ≡ true = ap (begins (codes "]]>")) (cons_same c 93 cs (codes "]>" ++ rest) same e) in
+    not_both (is_inside mode && begins (codes "]]>") (c ∷ cs)) (both_again (is_inside mode) (begins (codes "]]>") (c ∷ cs)) (inside_mode mode inside) found) h
+
+fits_plain : (mode : Mode) (c : ℕ) (cs : List ℕ) → Fits mode (Character c) (c ∷ []) cs → (is_inside mode && begins (codes "]]>") (c ∷ cs)) ≡ false
+fits_plain mode c cs fits = apart (is_inside mode && begins (codes "]]>") (c ∷ cs)) bad
+  where
+    bad : (is_inside mode && begins (codes "]]>") (c ∷ cs)) ≡ true → ⊥
+    bad h =
+        let k = both (is_inside mode) (begins (codes "]]>") (c ∷ cs)) h in
+        let b = begun (codes "]]>") (c ∷ cs) k.1 in
+        fits (inside_is mode k.0) (head_same c 93 cs (codes "]>" ++ b.0) b.1) (b.0, tail_same c 93 cs (codes "]>" ++ b.0) b.1)
+
+later_inside : (mode : Mode) → is_inside (later mode) ≡ is_inside mode
+later_inside modes.Start = refl
+later_inside modes.Outside = refl
+later_inside modes.Inside = refl
+
+run_row : (inside : Bool) (mode : Mode) (cs : List ℕ) → is_inside mode ≡ inside → StandsRow mode (map Character (plain_front inside cs)) cs (plain_back inside cs)
+run_row inside mode [] i = refl
+run_row inside mode (c ∷ cs) i = by_start (starts_plain inside (c ∷ cs)) refl (run_row inside (later mode) cs (later_inside mode ∙ i))
+  where
+    by_start : (v : Bool) → starts_plain inside (c ∷ cs) ≡ v → StandsRow (later mode) (map Character (plain_front inside cs)) cs (plain_back inside cs)
+        → StandsRow mode (map Character (cond v (c ∷ plain_front inside cs) [])) (c ∷ cs) (cond v (plain_back inside cs) (c ∷ cs))
+    by_start true h ih =
+        let k = both (is_plain c) (not (inside && begins (codes "]]>") (c ∷ cs))) h in
+        let p = plain_char c k.0 in
+        let n : (is_inside mode && begins (codes "]]>") (c ∷ cs)) ≡ false = ap (λ (v : Bool). v && begins (codes "]]>") (c ∷ cs)) i ∙ not_true (inside && begins (codes "]]>") (c ∷ cs)) k.1 in
+        (c ∷ [], cs, record { spelled = (p.char, eqb-false c 60 p.less, eqb-false c 38 p.amp, eqb-false c 13 p.return, refl); fits = λ m same follows. plain_fits mode c cs n m same follows }, ih, refl)
+    by_start false h ih = refl
 
 run_takes : (mode : Mode) (cs : List ℕ) (x : Token × List ℕ) → run_at (is_inside mode) cs ≡ Some x → TakesToken mode cs x
 unfolding run_at
-run_takes mode cs x e = from (chosen (starts_with is_plain cs) _ _ (Some x) e)
+run_takes mode [] x e = absurd cc
+run_takes mode (c ∷ cs) x e =
+    let inside : Bool = is_inside mode in
+    let front : List ℕ = plain_front inside (c ∷ cs) in
+    let back : List ℕ = plain_back inside (c ∷ cs) in
+    let g = passed (starts_plain inside (c ∷ cs)) (Some (tokens.Run (encode_utf8_all front), back)) x e in
+    let some : front ≡ c ∷ plain_front inside cs = rw (g.0) refl in
+    let same : chars (encode_utf8_all front) ≡ front = chars-encodes front (plain_scalars front (plain_front_all inside (c ∷ cs))) in
+    let row : Row mode (map Character front) (c ∷ cs) back = (run_row inside mode (c ∷ cs) refl, mapped_some front (plain_front inside cs) some) in
+    subst (TakesToken mode (c ∷ cs)) (some_is (tokens.Run (encode_utf8_all front), back) x g.1) (subst (λ (t : List ℕ). Row mode (map Character t) (c ∷ cs) back) (sym same) row)
   where
-    mapped_some : (run : List ℕ) → run ≢ [] → map Character run ≢ []
-    mapped_some [] some e = some refl
-    mapped_some (c ∷ run) some e = cc
-
-    plain : taken is_plain cs ≢ [] → Some (tokens.Run (encode_utf8_all (taken is_plain cs)), past is_plain cs) ≡ Some x → TakesToken mode cs x
-    plain some h =
-        let all = taken_all is_plain cs in
-        let row = run_row (taken is_plain cs) mode (past is_plain cs) all in
-        let same : chars (encode_utf8_all (taken is_plain cs)) ≡ taken is_plain cs = chars-encodes (taken is_plain cs) (plain_scalars (taken is_plain cs) all) in
-        subst (TakesToken mode cs) (some_is (tokens.Run (encode_utf8_all (taken is_plain cs)), past is_plain cs) x h)
-        (subst (λ (t : List ℕ). Row mode (map Character t) cs (past is_plain cs)) (sym same) (subst (λ (t : List ℕ). StandsRow mode (map Character (taken is_plain cs)) t (past is_plain cs)) (sym (taken_past is_plain cs)) row, mapped_some (taken is_plain cs) some))
-
-    from : ((starts_with is_plain cs ≡ true) × (Some (tokens.Run (encode_utf8_all (taken is_plain cs)), past is_plain cs) ≡ Some x)) ⊎ ((starts_with is_plain cs ≡ false) × (bracket_at (is_inside mode) cs ≡ Some x)) → TakesToken mode cs x
-    from (inl h) = plain (some_taken is_plain cs h.0) h.1
-    from (inr h) = bracket_takes mode cs x h.1
+    mapped_some : (run more : List ℕ) → run ≡ c ∷ more → map Character run ≢ []
+    mapped_some [] more some e = absurd cc
+    mapped_some (d ∷ run) more some e = cc
 
 -- ---- what is read stands there
 
@@ -367,32 +376,11 @@ unfolding token_at
 line_end_gave mode front back (inl at) = subst (λ (t : List ℕ). Gave (token_at mode (t ++ back))) (sym at) ((tokens.LineEnd, back), refl)
 line_end_gave mode front back (inr at) = subst (λ (t : List ℕ). Gave (token_at mode (t ++ back))) (sym at) ((tokens.LineEnd, past_feed back), refl)
 
-bracket_gave : (mode : Mode) (back : List ℕ) → Fits mode (Character 93) (93 ∷ []) back → Gave (bracket_at (is_inside mode) (93 ∷ back))
-unfolding bracket_at
-bracket_gave mode back fits = by_test (is_inside mode && begins (codes "]>") back) refl
-  where
-    begun : (o : Option (List ℕ)) → after (codes "]>") back ≡ o → is_some o ≡ true → BeginsWith (codes "]>") back
-    begun (Some rest) e h = (rest, after_takes (codes "]>") back rest e)
-    begun None e h = absurd cc
-
-    by_test : (v : Bool) → (is_inside mode && begins (codes "]>") back) ≡ v → Gave (cond v None (Some (tokens.Run (codes "]"), back)))
-    by_test true e = let k = both (is_inside mode) (begins (codes "]>") back) e in absurd (fits (inside_is mode k.0) refl (begun (after (codes "]>") back) refl k.1))
-    by_test false e = ((tokens.Run (codes "]"), back), refl)
-
-run_gave : (mode : Mode) (c : ℕ) (back : List ℕ) → IsTrue (is_char c) → eqb c 60 ≡ false → eqb c 38 ≡ false → eqb c 13 ≡ false → Fits mode (Character c) (c ∷ []) back → Gave (run_at (is_inside mode) (c ∷ back))
-unfolding run_at is_plain
-run_gave mode c back char less amp return fits = by_bracket (eqb c 93) refl
-  where
-    by_bracket : (v : Bool) → eqb c 93 ≡ v → Gave (run_at (is_inside mode) (c ∷ back))
-    by_bracket false e =
-        let plain : is_plain c ≡ true = char_plain c (record { char = char; less = less; amp = amp; return = return; bracket = e }) in
-        ((tokens.Run (encode_utf8_all (taken is_plain (c ∷ back))), past is_plain (c ∷ back)), ap (λ (v : Bool). cond v (Some (tokens.Run (encode_utf8_all (taken is_plain (c ∷ back))), past is_plain (c ∷ back))) (bracket_at (is_inside mode) (c ∷ back))) plain)
-    by_bracket true e =
-        let same : c ≡ 93 = eqb-true c 93 e in
-        let other : is_plain c ≡ false = rw (char, less, amp, return, e) refl in
-        let fits_ : Fits mode (Character 93) (93 ∷ []) back = λ inside k follows. fits inside same follows in
-        let g = subst (λ (d : ℕ). Gave (bracket_at (is_inside mode) (d ∷ back))) (sym same) (bracket_gave mode back fits_) in
-        subst (λ (v : Bool). Gave (cond v (Some (tokens.Run (encode_utf8_all (taken is_plain (c ∷ back))), past is_plain (c ∷ back))) (bracket_at (is_inside mode) (c ∷ back)))) (sym other) g
+run_gave : (mode : Mode) (c : ℕ) (back : List ℕ) → PlainChar c → Fits mode (Character c) (c ∷ []) back → Gave (run_at (is_inside mode) (c ∷ back))
+unfolding run_at
+run_gave mode c back p fits =
+    let starts : starts_plain (is_inside mode) (c ∷ back) ≡ true = rw (char_plain c p, fits_plain mode c back fits) refl in
+    ((tokens.Run (encode_utf8_all (plain_front (is_inside mode) (c ∷ back))), plain_back (is_inside mode) (c ∷ back)), ap (λ (v : Bool). cond v (Some (tokens.Run (encode_utf8_all (plain_front (is_inside mode) (c ∷ back))), plain_back (is_inside mode) (c ∷ back))) None) starts)
 
 character_gave : (mode : Mode) (c : ℕ) (front back : List ℕ) → Spells (Character c) front → Fits mode (Character c) front back → Gave (token_at mode (front ++ back))
 unfolding token_at
@@ -400,7 +388,7 @@ character_gave mode c front back (char, less, amp, return, at) fits =
     let l = ne_eqb c 60 less in
     let a = ne_eqb c 38 amp in
     let r = ne_eqb c 13 return in
-    let g = run_gave mode c back char l a r (λ inside k follows. fits inside k follows) in
+    let g = run_gave mode c back (record { char = char; less = l; amp = a; return = r }) (λ inside k follows. fits inside k follows) in
     let read : token_at mode (c ∷ back) ≡ run_at (is_inside mode) (c ∷ back) = rw (l, a, r) refl in
     subst (λ (t : List ℕ). Gave (token_at mode (t ++ back))) (sym at) (g.0, read ∙ g.1)
 

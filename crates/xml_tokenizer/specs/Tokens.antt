@@ -1,5 +1,5 @@
 -- Reading the token at the front of a text.
-use Rattle.std.specs.Prelude.{ℕ, Bool, true, false, ◌&&◌, ◌==◌, List, [], ◌∷◌, Option, None, Some, codes, if◌then◌else◌, encode_utf8_all}
+use Rattle.std.specs.Prelude.{ℕ, Bool, true, false, not, ◌&&◌, ◌==◌, List, [], ◌∷◌, Option, None, Some, codes, if◌then◌else◌, encode_utf8_all}
 use Rattle.xml_grammar.specs.declared.tokens.Mode.{Mode}
 use Rattle.xml_grammar.specs.declared.tokens.Mode.TheVariants as modes
 use Rattle.xml_grammar.specs.declared.tokens.Token.{Token}
@@ -7,7 +7,7 @@ use Rattle.xml_grammar.specs.declared.tokens.Token.TheVariants as tokens
 use Rattle.xml_tokenizer.specs.Classes.{is_plain}
 use Rattle.xml_tokenizer.specs.Declarations.{declaration_at}
 use Rattle.xml_tokenizer.specs.References.{reference_at}
-use Rattle.xml_tokenizer.specs.Runs.{taken, past, after, begins, starts_with}
+use Rattle.xml_tokenizer.specs.Runs.{after, begins}
 use Rattle.xml_tokenizer.specs.Sections.{comment_at, cdata_at, instruction_at}
 use Rattle.xml_tokenizer.specs.Steps.{◌>>=◌, or_else}
 use Rattle.xml_tokenizer.specs.Tags.{start_at, end_at}
@@ -50,13 +50,23 @@ markup_at start (c ∷ cs) =
     else if c == 33 then section_at cs
     else (start_at (c ∷ cs) >>= λ x. Some (tokens.Start x.0, x.1))
 
--- a `]` that stands for itself
-unfoldable pub bracket_at : Bool → List ℕ → Option (Token × List ℕ)
-bracket_at inside cs = after (codes "]") cs >>= λ rest. if inside && begins (codes "]>") rest then None else Some (tokens.Run (codes "]"), rest)
+-- does the first character stand for itself; inside an element no `]` does that begins `]]>`
+abbrev pub starts_plain : Bool → List ℕ → Bool
+starts_plain inside [] = false
+starts_plain inside (c ∷ cs) = is_plain c && not (inside && begins (codes "]]>") (c ∷ cs))
 
--- characters that stand for themselves
+-- the longest front of characters that stand for themselves
+abbrev pub plain_front : Bool → List ℕ → List ℕ
+plain_front inside [] = []
+plain_front inside (c ∷ cs) = if starts_plain inside (c ∷ cs) then c ∷ plain_front inside cs else []
+
+-- what follows it
+abbrev pub plain_back : Bool → List ℕ → List ℕ
+plain_back inside [] = []
+plain_back inside (c ∷ cs) = if starts_plain inside (c ∷ cs) then plain_back inside cs else c ∷ cs
+
 unfoldable pub run_at : Bool → List ℕ → Option (Token × List ℕ)
-run_at inside cs = if starts_with is_plain cs then Some (tokens.Run (encode_utf8_all (taken is_plain cs)), past is_plain cs) else bracket_at inside cs
+run_at inside cs = if starts_plain inside cs then Some (tokens.Run (encode_utf8_all (plain_front inside cs)), plain_back inside cs) else None
 
 unfoldable pub token_at : Mode → List ℕ → Option (Token × List ℕ)
 token_at mode [] = None

@@ -12,7 +12,7 @@ pub enum Class {
     Blank,
     Decimal,
     Char,
-    /// Chars that stand for themselves wherever they stand.
+    /// Chars that stand for themselves, but for `]` in the end of a CDATA section.
     Plain,
     /// Chars that stand for themselves between two such quotes.
     Value(char),
@@ -22,7 +22,7 @@ pub enum Class {
 fn is_plain(c: char) -> bool
     ensures { result ≡ is_plain c }
 {
-    is_char(c) && !matches!(c, '<' | '&' | '\r' | ']')
+    is_char(c) && !matches!(c, '<' | '&' | '\r')
 }
 
 #[tactic(auto, unfolding(crate::specs::Classes::is_value))]

@@ -141,20 +141,31 @@ fn are_chars(text: &str) -> bool
 }
 
 /// The Chars up to a word, and the text after the word.
+pub fn before<'p>(word: &str, text: &'p str) -> Option<(&'p str, &'p str)>
+    requires ascii { is_ascii word.now ≡ true }
+    requires some { 0 < length word.now }
+    ensures { MatchOption result (up_to word.now (chars text.now) ≡ None) (λ x. up_to word.now (chars text.now) ≡ Some (chars x.0.now, chars x.1.now)) }
+{
+    let Some(at) = memmem::find(text.as_bytes(), word.as_bytes()) else {
+        return None;
+    };
+    let (inside, stop) = text.split_at(at);
+    if !are_chars(inside) {
+        return None;
+    }
+    match behind(word, stop) {
+        Some(rest) => Some((inside, rest)),
+        None => None,
+    }
+}
+
 pub fn up_to<'p>(word: &str, text: &'p str) -> Result<(&'p str, &'p str), Miss>
     requires ascii { is_ascii word.now ≡ true }
     requires some { 0 < length word.now }
     ensures { Gives (λ x. (chars x.0.now, chars x.1.now)) result (up_to word.now (chars text.now)) }
 {
-    let Some(at) = memmem::find(text.as_bytes(), word.as_bytes()) else {
-        return Err(Miss::Nothing);
-    };
-    let (inside, stop) = text.split_at(at);
-    if !are_chars(inside) {
-        return Err(Miss::Nothing);
-    }
-    match behind(word, stop) {
-        Some(rest) => Ok((inside, rest)),
+    match before(word, text) {
+        Some(parts) => Ok(parts),
         None => Err(Miss::Nothing),
     }
 }

@@ -41,7 +41,7 @@ fn shown<'a>(token: &'a Token<'_>) -> (&'static str, &'a [u8]) {
 /// A mode, a text, the kind of its first token, what that carries, and the text after it.
 type Spelled = (Mode, &'static str, &'static str, &'static str, &'static str);
 
-const SPELLINGS: [Spelled; 21] = [
+const SPELLINGS: [Spelled; 22] = [
     (
         Mode::Start,
         "<?xml version=\"1.0\"?><a/>",
@@ -103,8 +103,9 @@ const SPELLINGS: [Spelled; 21] = [
     (Mode::Inside, "\rx", "line end", "", "x"),
     (Mode::Inside, "M\u{E9}r\nx<", "run", "M\u{E9}r\nx", "<"),
     (Mode::Inside, "\u{FFFD}>&", "run", "\u{FFFD}>", "&"),
-    (Mode::Inside, "]]x", "run", "]", "]x"),
-    (Mode::Outside, "]]>", "run", "]", "]>"),
+    (Mode::Inside, "]]x", "run", "]]x", ""),
+    (Mode::Inside, "a]b]]]>c", "run", "a]b]", "]]>c"),
+    (Mode::Outside, "]]>", "run", "]]>", ""),
 ];
 
 #[test]

@@ -1,17 +1,17 @@
 //! The token at the front of a text.
 
-ghost use Rattle.std.specs.Prelude.{◌≡◌, ◌≢◌, [], IfOk, IfErr};
+ghost use Rattle.std.specs.Prelude.{◌≡◌, ◌≢◌, [], IfOk, IfErr, encode_utf8_all};
 ghost use Rattle.std.specs.Str.{chars};
 ghost use Rattle.xml_grammar.specs.Pieces.{StandsRow, pieces_of};
 ghost use Rattle.xml_tokenizer.specs.Faults.{markup_rule, rule_at};
 ghost use Rattle.xml_tokenizer.specs.Stands.{Fails, FailsAtEnd, IsBehind};
-ghost use Rattle.xml_tokenizer.specs.Tokens.{is_start, is_inside, question_at, section_at, markup_at, bracket_at, run_at, token_at};
+ghost use Rattle.xml_tokenizer.specs.Tokens.{is_start, is_inside, question_at, section_at, markup_at, starts_plain, plain_front, plain_back, run_at, token_at};
 ghost use Rattle.xml_tokenizer.specs.Steps.{Gives};
 
 use crate::classes::Class;
 use crate::declarations::declaration_of;
 use crate::references::reference_of;
-use crate::runs::{after, begins, behind, behind_char, next_char, run, starts_with};
+use crate::runs::{after, before, begins, behind, next_char, run, starts_with};
 use crate::sections::{cdata_of, past_comment, past_instruction};
 use crate::stops::{Miss, TokenStop};
 use crate::tags::{end_of, start_of};
@@ -83,29 +83,36 @@ fn markup_of(alloc: Global, start: bool, text: &str) -> Result<(Token<'_>, &str)
     }
 }
 
-/// A `]` that stands for itself.
-#[tactic(auto, unfolding(crate::specs::Tokens::bracket_at))]
-fn bracket_of(inside: bool, text: &str) -> Result<(Token<'_>, &str), Miss>
-    ensures { Gives (λ x. (x.0, chars x.1.now)) result (bracket_at inside (chars text.now)) }
+/// Whether the first character stands for itself.
+fn starts_plain(inside: bool, text: &str) -> bool
+    ensures { result ≡ starts_plain inside (chars text.now) }
 {
-    let Some(rest) = behind_char(']', text) else {
-        return Err(Miss::Nothing);
-    };
-    if inside && begins("]>", rest) {
-        return Err(Miss::Nothing);
-    }
-    Ok((Token::Run(Text::raw(b"]")), rest))
+    starts_with(Class::Plain, text) && !(inside && begins("]]>", text))
 }
 
-/// Characters that stand for themselves.
+/// The longest front of characters that stand for themselves, and the text after it.
+fn plain_run(inside: bool, text: &str) -> (&str, &str)
+    ensures front { result.0.now ≡ encode_utf8_all (plain_front inside (chars text.now)) }
+    ensures rest { chars result.1.now ≡ plain_back inside (chars text.now) }
+{
+    let (plain, rest) = run(Class::Plain, text);
+    if !inside {
+        return (plain, rest);
+    }
+    match before("]]>", plain) {
+        Some((front, _)) => text.split_at(front.len()),
+        None => (plain, rest),
+    }
+}
+
 #[tactic(auto, unfolding(crate::specs::Tokens::run_at))]
 fn run_of(inside: bool, text: &str) -> Result<(Token<'_>, &str), Miss>
     ensures { Gives (λ x. (x.0, chars x.1.now)) result (run_at inside (chars text.now)) }
 {
-    if !starts_with(Class::Plain, text) {
-        return bracket_of(inside, text);
+    if !starts_plain(inside, text) {
+        return Err(Miss::Nothing);
     }
-    let (plain, rest) = run(Class::Plain, text);
+    let (plain, rest) = plain_run(inside, text);
     Ok((Token::Run(Text::raw(plain.as_bytes())), rest))
 }
 
