@@ -13,3 +13,5 @@ pub mod TypeElements
 pub mod Nodes
 pub mod Children
 pub mod Values
+pub mod Tops
+pub mod TreeLaw

@@ -30,11 +30,11 @@ members_of_node read n = node_members n ++ element_members read n
 
 -- ---- names that differ
 
-names-elements : (read : Element → Value) (es : List Element) → map tree.name_of (map (element_member read) es) ≡ map name_of es
+pub names-elements : (read : Element → Value) (es : List Element) → map tree.name_of (map (element_member read) es) ≡ map name_of es
 names-elements read [] = refl
 names-elements read (c ∷ cs) = ap (λ n. n ∷ map tree.name_of (map (element_member read) cs)) (name-member (name_of c) (read c)) ∙ ap (λ ns. name_of c ∷ ns) (names-elements read cs)
 
-names-attributes : (xs : List Attribute) → map tree.name_of (map attribute_member xs) ≡ attribute_names xs
+pub names-attributes : (xs : List Attribute) → map tree.name_of (map attribute_member xs) ≡ attribute_names xs
 names-attributes [] = refl
 names-attributes (a ∷ xs) = ap (λ n. n ∷ map tree.name_of (map attribute_member xs)) (name-member a.name (plain a.value)) ∙ ap (λ ns. a.name ∷ ns) (names-attributes xs)
 

@@ -16,7 +16,7 @@ use Rattle.rdf_forms.specs.MemberRules.{has_again}
 
 -- ---- names that are the same
 
-same_name_is : (m n : Name) → (same_name m n ≡ true) ↔ (m ≡ n)
+pub same_name_is : (m n : Name) → (same_name m n ≡ true) ↔ (m ≡ n)
 unfolding same_name
 same_name_is m n = repeats.same_name_is m n
 
