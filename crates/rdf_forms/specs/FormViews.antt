@@ -12,6 +12,7 @@ form_in views.ByAttributes = ByAttributes
 form_in views.ByText = ByText
 form_in views.NoForm = NoForm
 
+-- is it the form by attributes
 abbrev pub is_by_attributes : Form → Bool
 is_by_attributes ByAttributes = true
 is_by_attributes form = false

@@ -129,7 +129,7 @@ impl<'e, 'p> Admission<'e, 'p> {
 
     /// Whether it refuses an attribute of the element.
     pub fn refuses_some(&self, role: Role) -> bool
-        ensures { result ≡ has_some_attribute (is_refused role self.now.element.now) self.now.element.now }
+        ensures { let e = self.now.element.now in result ≡ has_some_attribute (is_refused role e) e }
     {
         self.element
             .attributes
