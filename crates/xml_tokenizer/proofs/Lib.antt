@@ -18,4 +18,5 @@ pub mod TokenLaws
 pub mod FaultLaws
 pub mod Found
 pub mod Sure
+pub mod AsciiBytes
 pub mod PlainLaws

@@ -1,41 +1,80 @@
--- Line ends, character by character.
-use Rattle.std.proofs.Common.{◌≡◌, ℕ, ◌+◌, Bool, true, false, cond, eqb, ◌&&◌, List, [], ◌∷◌, ◌++◌, length, refl, sym, ap, ◌∙◌, append_assoc, length-append, arith}
-use Rattle.std.specs.Prelude.{encode_utf8, encode_utf8_all}
-use Rattle.std.specs.List.{slice_index}
+-- Line ends, line by line.
+use Rattle.std.proofs.Common.{◌≡◌, ℕ, ◌+◌, ◌<◌, ◌≤◌, Bool, true, false, cond, eqb, List, [], ◌∷◌, ◌++◌, length, take, drop, refl, sym, ap, ◌∙◌, append_assoc, length-append, append-nil, arith}
+use Rattle.std.specs.Prelude.{IsTrue, encode_utf8, encode_utf8_all}
+use Rattle.std.specs.List.{list_all, slice_index}
+use Rattle.std.specs.Str.{chars, IsUtf8, IsCharBoundary}
 use Rattle.std.proofs.lemmas.Bool.{eqb-true}
-use Rattle.std.proofs.lemmas.List.{append-nil, get_or-append-add}
-use Rattle.std.proofs.lemmas.Str.{encode_ascii}
-use lib.Utf8.{encode}
-use Rattle.memchr.specs.Find.{Nowhere, Passes, is_byte}
+use Rattle.std.proofs.lemmas.Str.{encodes-append, encodes-chars, IsCharBoundary-after_ascii}
+use Rattle.memchr.specs.Find.{Nowhere, NoneBefore, Passes, is_byte}
 use Rattle.xml_grammar.specs.Spelling.{line_ends, line_ends_after}
-use Rattle.xml_tokenizer.specs.Lines.{line_bytes}
+use Rattle.xml_grammar.proofs.Splits.{both}
+use Rattle.xml_grammar.proofs.ValueParts.{is_not}
+use Rattle.xml_tokenizer.specs.Values.{past_feed}
+use Rattle.xml_tokenizer.proofs.AsciiBytes.{none_passes, none_spelled, cut_before, char_at}
+use Rattle.xml_tokenizer.proofs.Steps.{not_true}
 
-pub line_more : (behind : Bool) (c : ℕ) (cs : List ℕ) → encode_utf8_all (line_ends_after behind (c ∷ cs)) ≡ line_bytes behind c ++ encode_utf8_all (line_ends_after (eqb c 13) cs)
-unfolding line_bytes encode
-line_more behind c cs = by_test (eqb c 13) (behind && eqb c 10)
+pub ends_other : (c : ℕ) (cs : List ℕ) → eqb c 13 ≡ false → line_ends (c ∷ cs) ≡ c ∷ line_ends cs
+ends_other c cs e = rw e refl
+
+-- a front without CR stands as it is
+pub ends_front_again : (front more : List ℕ) → IsTrue (list_all (is_not 13) front) → line_ends (front ++ more) ≡ front ++ line_ends more
+ends_front_again [] more r = refl
+ends_front_again (f ∷ front) more r =
+    let k = both (is_not 13 f) (list_all (is_not 13) front) r in
+    ends_other f (front ++ more) (not_true (eqb f 13) k.0) ∙ ap (λ (x : List ℕ). f ∷ x) (ends_front_again front more k.1)
+
+-- behind CR one LF is passed
+pub ends_feed : (cs : List ℕ) → line_ends_after true cs ≡ line_ends (past_feed cs)
+ends_feed [] = refl
+ends_feed (c ∷ cs) = by_feed (eqb c 10) refl
   where
-    by_test : (v w : Bool) → encode_utf8_all (cond v (10 ∷ line_ends_after true cs) (cond w (line_ends_after false cs) (c ∷ line_ends_after false cs))) ≡ cond v (10 ∷ []) (cond w [] (encode_utf8 c)) ++ encode_utf8_all (line_ends_after v cs)
-    by_test true w = refl
-    by_test false true = refl
-    by_test false false = refl
+    by_feed : (v : Bool) → eqb c 10 ≡ v → line_ends_after true (c ∷ cs) ≡ line_ends (cond v cs (c ∷ cs))
+    by_feed true e = ap (λ (d : ℕ). line_ends_after true (d ∷ cs)) (eqb-true c 10 e)
+    by_feed false e = rw e refl
 
-pub lines_more : (text owned next : List ℕ) (behind after_return : Bool) (c : ℕ) (cs rest : List ℕ) → cs ≡ c ∷ rest → next ≡ owned ++ line_bytes behind c → after_return ≡ eqb c 13
-    → owned ++ encode_utf8_all (line_ends_after behind cs) ≡ text → next ++ encode_utf8_all (line_ends_after after_return rest) ≡ text
-lines_more text owned next behind after_return c cs rest h e f so_far =
-    let one : owned ++ encode_utf8_all (line_ends_after behind cs) ≡ owned ++ (line_bytes behind c ++ encode_utf8_all (line_ends_after after_return rest)) = rw (h, f) (ap (λ (x : List ℕ). owned ++ x) (line_more behind c rest)) in
-    ap (λ (x : List ℕ). x ++ encode_utf8_all (line_ends_after after_return rest)) e ∙ append_assoc owned (line_bytes behind c) _ ∙ sym one ∙ so_far
+feed_short : (cs : List ℕ) → length (past_feed cs) ≤ length cs
+feed_short [] = omega arith
+feed_short (c ∷ cs) = by_feed (eqb c 10)
+  where
+    by_feed : (v : Bool) → length (cond v cs (c ∷ cs)) ≤ length (c ∷ cs)
+    by_feed true = omega arith
+    by_feed false = omega arith
 
-pub lines_end : (text owned : List ℕ) (behind : Bool) (cs : List ℕ) → cs ≡ [] → owned ++ encode_utf8_all (line_ends_after behind cs) ≡ text → owned ≡ text
-lines_end text owned behind cs h so_far = sym (append-nil owned) ∙ ap (λ (x : List ℕ). owned ++ encode_utf8_all (line_ends_after behind x)) (sym h) ∙ so_far
+return_low : (b : ℕ) → is_byte 13 b ≡ true → b < 128
+return_low b e = let same : b ≡ 13 = eqb-true b 13 e in omega arith
 
 -- a text without CR has its line ends already
-pub no_returns : (cs : List ℕ) → Nowhere (Passes (is_byte 13) (encode_utf8_all cs)) 0 (length (encode_utf8_all cs)) → line_ends cs ≡ cs
-no_returns [] h = refl
-no_returns (c ∷ cs) h = by_return (eqb c 13) refl (no_returns cs (λ k low high at. h (length (encode_utf8 c) + k) (omega arith) (omega (arith, length-append (encode_utf8 c) (encode_utf8_all cs))) (ap (λ (b : ℕ). eqb b 13) (get_or-append-add (encode_utf8 c) (encode_utf8_all cs) k 0) ∙ at)))
-  where
-    by_return : (v : Bool) → eqb c 13 ≡ v → line_ends cs ≡ cs → line_ends (c ∷ cs) ≡ c ∷ cs
-    by_return true e ih =
-        let same : encode_utf8 c ≡ 13 ∷ [] = ap encode_utf8 (eqb-true c 13 e) ∙ encode_ascii 13 (omega arith) in
-        let one : length (encode_utf8 c) ≡ 1 = ap length same in
-        absurd (h 0 (omega arith) (omega (arith, one, length-append (encode_utf8 c) (encode_utf8_all cs))) (ap (λ (t : List ℕ). eqb (slice_index (t ++ encode_utf8_all cs) 0) 13) same))
-    by_return false e ih = rw e (ap (λ (x : List ℕ). c ∷ x) ih)
+pub no_returns : (text : List ℕ) → IsUtf8 text → Nowhere (Passes (is_byte 13) text) 0 (length text) → line_ends (chars text) ≡ chars text
+no_returns text u h =
+    let none = none_spelled (is_byte 13) return_low (chars text) (ap (list_all (is_not 13)) (encodes-chars text u) ∙ none_passes (is_byte 13) text h) in
+    ap line_ends (sym (append-nil (chars text))) ∙ ends_front_again (chars text) [] none ∙ append-nil (chars text)
+
+-- the first line of a text with a CR, and the text behind the line's end
+pub record FirstLine (text : List ℕ) (at : ℕ) : Type 0 where
+  pub front : IsCharBoundary text at
+  pub back : IsCharBoundary text (at + 1)
+  pub ends : line_ends (chars text) ≡ chars (take at text) ++ 10 ∷ line_ends (past_feed (chars (drop (at + 1) text)))
+  pub shorter : length (past_feed (chars (drop (at + 1) text))) < length (chars text)
+
+pub first_line : (text : List ℕ) (at : ℕ) → IsUtf8 text → NoneBefore (Passes (is_byte 13) text) 0 (length text) at → Passes (is_byte 13) text at → FirstLine text at
+first_line text at u first found =
+    let cut = cut_before (is_byte 13) text (length text) at return_low u (omega arith) first found in
+    let byte : slice_index text at ≡ 13 = eqb-true (slice_index text at) 13 found in
+    let low : slice_index text at < 128 = return_low (slice_index text at) found in
+    let rest : List ℕ = chars (drop (at + 1) text) in
+    let behind : chars (drop at text) ≡ 13 ∷ rest = char_at text at u first.high low ∙ ap (λ (b : ℕ). b ∷ rest) byte in
+    let parts : chars text ≡ chars (take at text) ++ 13 ∷ rest = cut.parts ∙ ap (λ (t : List ℕ). chars (take at text) ++ t) behind in
+    let none = none_spelled (is_byte 13) return_low (chars (take at text)) (ap (list_all (is_not 13)) (encodes-chars (take at text) cut.front) ∙ cut.lacks) in
+    record {
+      front = cut.boundary;
+      back = IsCharBoundary-after_ascii text at u first.high low;
+      ends = ap line_ends parts ∙ ends_front_again (chars (take at text)) (13 ∷ rest) none ∙ ap (λ (t : List ℕ). chars (take at text) ++ 10 ∷ t) (ends_feed rest);
+      shorter = omega (arith, feed_short rest, ap length parts, length-append (chars (take at text)) (13 ∷ rest));
+    }
+
+-- one line more is written
+pub line_written : (all owned line next : List ℕ) (cs rest : List ℕ) → IsUtf8 line → line_ends cs ≡ chars line ++ 10 ∷ line_ends rest → next ≡ (owned ++ line) ++ encode_utf8 10
+    → owned ++ encode_utf8_all (line_ends cs) ≡ all → next ++ encode_utf8_all (line_ends rest) ≡ all
+line_written all owned line next cs rest u e f so_far =
+    let spelled : encode_utf8_all (line_ends cs) ≡ line ++ (encode_utf8 10 ++ encode_utf8_all (line_ends rest)) = ap encode_utf8_all e ∙ encodes-append (chars line) (10 ∷ line_ends rest) ∙ ap (λ (t : List ℕ). t ++ (encode_utf8 10 ++ encode_utf8_all (line_ends rest))) (encodes-chars line u) in
+    ap (λ (t : List ℕ). t ++ encode_utf8_all (line_ends rest)) f ∙ append_assoc (owned ++ line) (encode_utf8 10) _ ∙ append_assoc owned line _ ∙ ap (λ (t : List ℕ). owned ++ t) (sym spelled) ∙ so_far

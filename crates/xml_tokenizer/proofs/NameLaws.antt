@@ -1,5 +1,5 @@
 -- What is read as a name is spelled so, and what is spelled so is read.
-use Rattle.std.proofs.Common.{◌≡◌, ℕ, Bool, true, false, eqb, ◌||◌, List, [], ◌∷◌, ◌++◌, Option, Some, None, refl, sym, ap, subst, ◌∙◌, append_assoc}
+use Rattle.std.proofs.Common.{◌≡◌, ℕ, true, false, eqb, List, [], ◌∷◌, ◌++◌, Option, Some, None, refl, sym, ap, subst, ◌∙◌, append_assoc}
 use Rattle.std.specs.Prelude.{IsTrue, codes, encode_utf8_all}
 use Rattle.std.specs.List.{list_all}
 use Rattle.xmp_values.specs.Characters.{is_name_start, is_name_char, is_name_of}
@@ -10,7 +10,7 @@ use Rattle.xml_grammar.proofs.Parts.{is_qname_char, start_is_name, name_all}
 use Rattle.xml_tokenizer.specs.Names.{starts_name, name_at, local_at, qname_at}
 use Rattle.xml_tokenizer.specs.Runs.{taken, past, after}
 use Rattle.xml_tokenizer.proofs.Sought.{taken_past}
-use Rattle.xml_tokenizer.proofs.Steps.{bind_some, some_is, passed, taken_all, run_again}
+use Rattle.xml_tokenizer.proofs.Steps.{or_false, bind_some, some_is, passed, taken_all, run_again}
 use Rattle.xml_tokenizer.proofs.Words.{after_takes}
 
 name_of_run : (cs : List ℕ) → starts_name cs ≡ true → IsTrue (is_name_of (taken is_name_char cs))
@@ -54,10 +54,6 @@ qname_takes cs x e =
         let colon : rest ≡ codes ":" ++ behind = after_takes (codes ":") rest behind found in
         let all : cs ≡ (text ++ codes ":" ++ m.0) ++ b.0.1 = at ∙ ap (λ (t : List ℕ). text ++ t) (colon ∙ ap (λ (t : List ℕ). codes ":" ++ t) m.2) ∙ regroup text (codes ":") m.0 b.0.1 in
         subst (λ (y : QName × List ℕ). (t : List ℕ) × SpellsQName y.0 t × (cs ≡ t ++ y.1)) (some_is (record { prefix = Some name; local = b.0.0 }, b.0.1) x b.2) (text ++ codes ":" ++ m.0, (text, m.0, spelled, m.1, refl), all)
-
-pub or_false : (a b : Bool) → (a || b) ≡ false → (a ≡ false) × (b ≡ false)
-or_false true b e = absurd cc
-or_false false b e = (refl, e)
 
 qname_stops : (rest : List ℕ) → Stops is_qname_char rest → Stops is_name_char rest × (after (codes ":") rest ≡ None)
 qname_stops [] s = (tt, refl)

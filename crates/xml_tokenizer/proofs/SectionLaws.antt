@@ -16,8 +16,8 @@ use Rattle.xml_tokenizer.specs.Names.{name_at}
 use Rattle.xml_tokenizer.specs.Runs.{after, is_ascii, up_to, found_or, with_front}
 use Rattle.xml_tokenizer.specs.Sections.{comment_at, cdata_at, starts_blank, body_at, instruction_at}
 use Rattle.xml_tokenizer.specs.Steps.{◌>>=◌}
-use Rattle.xml_tokenizer.proofs.NameLaws.{or_false, name_takes, name_again}
-use Rattle.xml_tokenizer.proofs.Steps.{bind_some, some_is, passed, not_stopped}
+use Rattle.xml_tokenizer.proofs.NameLaws.{name_takes, name_again}
+use Rattle.xml_tokenizer.proofs.Steps.{or_false, bind_some, some_is, passed, not_stopped}
 use Rattle.xml_tokenizer.proofs.Words.{and_parts, word_bytes, after_takes, after_again}
 
 -- ---- text up to a word

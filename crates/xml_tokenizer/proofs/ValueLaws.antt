@@ -1,5 +1,5 @@
 -- What is read as a value is spelled so, and what is spelled so is read.
-use Rattle.std.proofs.Common.{◌≡◌, ◌≢◌, ℕ, zero, suc, ◌+◌, ◌<◌, Bool, true, false, cond, eqb, not, ◌||◌, ◌⊎◌, List, [], ◌∷◌, ◌++◌, length, Option, Some, None, refl, sym, ap, subst, ◌∙◌, append_assoc, length-append, arith, inl, inr}
+use Rattle.std.proofs.Common.{◌≡◌, ◌≢◌, ℕ, zero, suc, ◌+◌, ◌<◌, Bool, true, false, cond, eqb, ◌||◌, ◌⊎◌, List, [], ◌∷◌, ◌++◌, length, Option, Some, None, refl, sym, ap, subst, ◌∙◌, append_assoc, length-append, arith, inl, inr}
 use Rattle.std.specs.Prelude.{IsTrue, codes, encode_utf8, encode_utf8_all}
 use Rattle.std.specs.List.{list_all}
 use Rattle.std.proofs.lemmas.Bool.{eqb-true, eqb-false, ne_eqb, eq-eqb}
@@ -14,24 +14,17 @@ use Rattle.xml_tokenizer.specs.References.{reference_at}
 use Rattle.xml_tokenizer.specs.Runs.{taken, past, after, width, with_front}
 use Rattle.xml_tokenizer.specs.Steps.{◌>>=◌}
 use Rattle.xml_tokenizer.specs.Values.{equals_at, quote_at, past_feed, special_at, ended, tail_at, value_at}
+use Rattle.xml_tokenizer.proofs.LineEnds.{ends_other, ends_feed, ends_front_again}
 use Rattle.xml_tokenizer.proofs.ReferenceLaws.{reference_takes, reference_again}
 use Rattle.xml_tokenizer.proofs.Sought.{with_both, with_nothing, taken_past}
-use Rattle.xml_tokenizer.proofs.Steps.{bind_some, some_is, passed, run_again, taken_all}
+use Rattle.xml_tokenizer.proofs.Steps.{or_false, not_true, bind_some, some_is, passed, run_again, taken_all}
 use Rattle.xml_tokenizer.proofs.Words.{after_takes}
 
 -- ---- tests
 
-pub or_false : (a b : Bool) → (a || b) ≡ false → (a ≡ false) × (b ≡ false)
-or_false true b e = absurd cc
-or_false false b e = (refl, e)
-
 or_false_again : (a b : Bool) → a ≡ false → b ≡ false → (a || b) ≡ false
 or_false_again true b e f = absurd cc
 or_false_again false b e f = f
-
-pub not_true : (a : Bool) → not a ≡ true → a ≡ false
-not_true true e = absurd cc
-not_true false e = refl
 
 pub record Plain (quote c : ℕ) : Type 0 where
   pub char : IsTrue (is_char c)
@@ -114,21 +107,10 @@ ends_nil (c ∷ cs) e = by_test (eqb c 13) e
 
 -- behind CR a text that LF doesn't begin is read as ever
 ends_behind : (cs : List ℕ) → past_feed cs ≡ cs → line_ends_after true cs ≡ line_ends cs
-ends_behind [] e = refl
-ends_behind (c ∷ cs) e = by_test (eqb c 10) refl e
-  where
-    no_cons : (c : ℕ) (cs : List ℕ) → cs ≡ c ∷ cs → ⊥
-    no_cons c cs e = let k = ap length e in omega arith
-
-    by_test : (v : Bool) → eqb c 10 ≡ v → cond v cs (c ∷ cs) ≡ c ∷ cs → line_ends_after true (c ∷ cs) ≡ line_ends (c ∷ cs)
-    by_test true f h = absurd (no_cons c cs h)
-    by_test false f h = rw f refl
+ends_behind cs e = ends_feed cs ∙ ap line_ends e
 
 pub feed_is : (c : ℕ) (cs : List ℕ) → eqb c 10 ≡ false → past_feed (c ∷ cs) ≡ c ∷ cs
 feed_is c cs e = rw e refl
-
-ends_other : (c : ℕ) (cs : List ℕ) → eqb c 13 ≡ false → line_ends (c ∷ cs) ≡ c ∷ line_ends cs
-ends_other c cs e = rw e refl
 
 ends_return : (cs : List ℕ) → line_ends (13 ∷ cs) ≡ 10 ∷ line_ends_after true cs
 ends_return cs = refl
@@ -158,13 +140,6 @@ ends_front (f ∷ front) (c ∷ cs) back r l e = by_test (eqb c 13) refl e (λ h
         let same : c ≡ f = head_same c f (line_ends cs) (front ++ back) h in
         let is : cs ≡ front ++ t.0 = t.1 in
         (t.0, cc, t.2)
-
--- a front without CR stands as it is
-ends_front_again : (front more : List ℕ) → IsTrue (list_all (is_not 13) front) → line_ends (front ++ more) ≡ front ++ line_ends more
-ends_front_again [] more r = refl
-ends_front_again (f ∷ front) more r =
-    let k = both (is_not 13 f) (list_all (is_not 13) front) r in
-    ends_other f (front ++ more) (not_is 13 f k.0) ∙ ap (λ (x : List ℕ). f ∷ x) (ends_front_again front more k.1)
 
 among_return : NotAmong 13
 among_return = record { lt = refl; gt = refl; amp = refl; apos = refl; quot = refl; decimal = refl; hexadecimal = refl; no_digit = refl; no_hexadecimal = refl }

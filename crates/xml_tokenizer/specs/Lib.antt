@@ -1,7 +1,6 @@
 pub mod Classes
 pub mod Declarations
 pub mod Faults
-pub mod Lines
 pub mod Names
 pub mod References
 pub mod Runs

@@ -1,44 +1,41 @@
 //! Line ends (XML 1.0, section 2.11).
 
-ghost use Rattle.std.specs.Prelude.{◌≡◌, ◌++◌, IfOk, encode_utf8_all};
+ghost use Rattle.std.specs.Prelude.{◌≡◌, ◌<◌, ◌∷◌, ◌++◌, length, IfOk, IfNone, IfSome, encode_utf8_all};
 ghost use Rattle.std.specs.Str.{chars};
 ghost use Rattle.std.specs.String.{string_bytes};
 ghost use Rattle.xml_grammar.specs.Spelling.{line_ends};
-ghost use Rattle.xml_tokenizer.specs.Lines.{line_bytes};
 
-use crate::runs::next_char;
+use crate::values::after_feed;
 use memchr::memchr;
 use std::alloc::{AllocError, Global};
 use xmp_values::{Bytes, Text};
 
-#[tactic(auto, unfolding(crate::specs::Lines::line_bytes))]
-fn with_line_char(text: String, behind: bool, c: char) -> Result<String, AllocError>
-    ensures { IfOk result (λ s. string_bytes s ≡ string_bytes text ++ line_bytes behind c) }
+/// The text before its first CR, and the text after the line end that this CR is or begins.
+fn next_line(text: &str) -> Option<(&str, &str)>
+    ensures none { IfNone result (line_ends (chars text.now) ≡ chars text.now) }
+    ensures some { IfSome result (λ x. line_ends (chars text.now) ≡ chars x.0.now ++ 10 ∷ line_ends (chars x.1.now)) }
+    ensures shorter { IfSome result (λ x. length (chars x.1.now) < length (chars text.now)) }
 {
-    let mut text = text;
-    if c == '\r' {
-        text.push('\n')?;
-        return Ok(text);
-    }
-    if behind && c == '\n' {
-        return Ok(text);
-    }
-    text.push(c)?;
-    Ok(text)
+    let Some(at) = memchr(b'\r', text.as_bytes()) else {
+        return None;
+    };
+    let (line, _) = text.split_at(at);
+    let (_, next) = text.split_at(at + 1);
+    Some((line, after_feed(next)))
 }
 
 fn owned_lines(alloc: Global, text: &str) -> Result<String, AllocError>
     ensures { IfOk result (λ s. string_bytes s ≡ encode_utf8_all (line_ends (chars text.now))) }
 {
     let mut owned = String::new(alloc);
-    let mut behind = false;
     let mut rest = text;
     for _ in 0..text.len() {
-        let Some((c, next)) = next_char(rest) else {
+        let Some((line, next)) = next_line(rest) else {
+            owned.push_str(rest)?;
             return Ok(owned);
         };
-        owned = with_line_char(owned, behind, c)?;
-        behind = c == '\r';
+        owned.push_str(line)?;
+        owned.push('\n')?;
         rest = next;
     }
     Ok(owned)
@@ -48,9 +45,8 @@ fn owned_lines(alloc: Global, text: &str) -> Result<String, AllocError>
 pub fn lines_of(alloc: Global, text: &str) -> Result<Text<'_>, AllocError>
     ensures { IfOk result (λ x. x ≡ encode_utf8_all (line_ends (chars text.now))) }
 {
-    let bytes = text.as_bytes();
-    match memchr(b'\r', bytes) {
-        None => Ok(Text::raw(bytes)),
+    match next_line(text) {
+        None => Ok(Text::raw(text.as_bytes())),
         Some(_) => {
             let owned = owned_lines(alloc, text)?;
             Ok(Text::own(Bytes::from_vec(owned.into_bytes())))
