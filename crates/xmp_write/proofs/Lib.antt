@@ -1,2 +1,3 @@
 pub mod TextSets
 pub mod Levels
+pub mod HintMaps

@@ -26,7 +26,14 @@ bytes_eq-sym xs ys =
 pub bytes_eq-itself : (xs : List ℕ) → bytes_eq xs xs ≡ true
 bytes_eq-itself xs = (bytes_eq-Decides xs xs).1 refl
 
-at_end : (here before : Bool) → cond here true before ≡ (before || (here || false))
+-- a set with one key more
+pub has_text-more : (key : Bor (List ℕ)) (seen new : BTreeSet (Bor (List ℕ))) → UpdatesBy key_cmp (key_cmp key) seen new true → (text : List ℕ)
+    → has_text new text ≡ cond (bytes_eq text key.now) true (has_text seen text)
+has_text-more key seen new updates text =
+    updates.0 (record { ref_ptr = (0, 0); now = text })
+    ∙ ap (λ here. cond here true (has_text seen text)) (is_eq-slice_cmp key.now text ∙ bytes_eq-sym key.now text)
+
+pub at_end : (here before : Bool) → cond here true before ≡ (before || (here || false))
 at_end true true = refl
 at_end true false = refl
 at_end false true = refl
@@ -36,8 +43,7 @@ at_end false false = refl
 pub texts_more : (key : Bor (List ℕ)) (seen new : BTreeSet (Bor (List ℕ))) (keys more : List (Bor (List ℕ))) → HasTexts seen (texts_of keys)
     → UpdatesBy key_cmp (key_cmp key) seen new true → more ≡ keys ++ key ∷ [] → HasTexts new (texts_of more)
 texts_more key seen new keys more old updates put text =
-    updates.0 (record { ref_ptr = (0, 0); now = text })
-    ∙ ap (λ here. cond here true (has_text seen text)) (is_eq-slice_cmp key.now text ∙ bytes_eq-sym key.now text)
+    has_text-more key seen new updates text
     ∙ at_end (bytes_eq text key.now) (has_text seen text)
     ∙ ap (λ before. before || (bytes_eq text key.now || false)) (old text)
     ∙ sym (list_any-append (bytes_eq text) (texts_of keys) (key.now ∷ []))

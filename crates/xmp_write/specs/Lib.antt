@@ -2,4 +2,5 @@ pub mod Texts
 pub mod Packets
 pub mod Written
 pub mod Prefixes
+pub mod Hinted
 pub mod Lines

@@ -6,6 +6,7 @@
 #![tactic(auto)]
 
 mod forms;
+mod hinted;
 mod known;
 mod packets;
 #[cfg(test)]
