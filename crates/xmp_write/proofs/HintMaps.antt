@@ -9,7 +9,7 @@ use Rattle.std.proofs.lemmas.List.{map-append, take_more, drop_more}
 use Rattle.std.proofs.lemmas.List.Folds.{list_any-append}
 use Rattle.std.proofs.lemmas.Map.Text.{btree_map_updates_str}
 use Rattle.xmp_values.specs.declared.hints.Hint.{Hint}
-use Rattle.xmp_write.specs.Prefixes.{prefix_in, has_prefix}
+use Rattle.xmp_write.specs.Prefixes.{has_prefix}
 use Rattle.xmp_write.specs.Texts.{has_text, text_in}
 use Rattle.xmp_write.specs.Hinted.{hints_of, HasSpaces, HasPrefixes}
 use Rattle.xmp_write.proofs.TextSets.{key_cmp, bytes_eq-sym, has_text-more, at_end}

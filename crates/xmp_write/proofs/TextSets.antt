@@ -1,5 +1,5 @@
 -- Sets of borrowed texts, by the texts that they have.
-use Rattle.std.proofs.Common.{◌≡◌, ℕ, Bool, true, false, cond, ◌||◌, List, [], ◌∷◌, ◌++◌, Bor, refl, sym, ap, ◌∙◌}
+use Rattle.std.proofs.Common.{◌≡◌, ℕ, ◌+◌, ◌<◌, length, take, get_or, Bool, true, false, cond, ◌||◌, List, [], ◌∷◌, ◌++◌, Bor, refl, sym, ap, ◌∙◌}
 use Rattle.std.specs.List.{list_any}
 use Rattle.std.specs.Str.{bytes_eq}
 use Rattle.std.specs.declared.cmp.Ordering.{Ordering}
@@ -7,7 +7,7 @@ use Rattle.std.specs.Ordering.{nat_cmp, is_eq}
 use Rattle.std.specs.Cmp.Lexicographic.{slice_cmp}
 use Rattle.std.specs.BTreeSet.{BTreeSet, UpdatesBy}
 use Rattle.std.proofs.lemmas.Bool.Decides.{same_from_decides}
-use Rattle.std.proofs.lemmas.List.{map-append}
+use Rattle.std.proofs.lemmas.List.{map-append, take_more}
 use Rattle.std.proofs.lemmas.List.Folds.{list_any-append}
 use Rattle.std.proofs.lemmas.Map.Text.{is_eq-slice_cmp}
 use Rattle.std.proofs.lemmas.Slice.Eq.{bytes_eq-Decides}
@@ -55,3 +55,7 @@ pub texts_same : (seen new : BTreeSet (Bor (List ℕ))) (keys more : List (Bor (
     → new.keys ≡ seen.keys → more ≡ keys → HasTexts new (texts_of more)
 texts_same seen new keys more old same kept text =
     ap (list_any (λ key. is_eq (slice_cmp nat_cmp text key.now))) same ∙ old text ∙ ap (λ keys. list_any (bytes_eq text) (texts_of keys)) (sym kept)
+
+-- one text more of a list
+pub texts_of-take : (list : List (Bor (List ℕ))) (i : ℕ) (d : Bor (List ℕ)) → i < length list → texts_of (take (i + 1) list) ≡ texts_of (take i list) ++ (get_or list i d).now ∷ []
+texts_of-take list i d within = ap texts_of (take_more list i d within) ∙ map-append (λ text. text.now) (take i list) (get_or list i d ∷ [])

@@ -1,5 +1,5 @@
 //! Hints as they are looked up.
-ghost use Rattle.std.specs.Prelude.{◌≡◌, IfOk, length};
+ghost use Rattle.std.specs.Prelude.{◌≡◌, ◌<◌, ◌^◌, IfOk, length};
 ghost use Rattle.std.specs.Option.{option_copied};
 ghost use Rattle.xmp_write.specs.Prefixes.{prefix_in, has_prefix};
 ghost use Rattle.xmp_write.specs.Hinted.{hints_of, HasSpaces, HasPrefixes};
@@ -44,10 +44,7 @@ fn hint_list<'h>(alloc: Global, hints: &'h Hints) -> Result<Vec<&'h Hint>, Memor
 
 /// The prefix of each namespace. They are put in from the last hint on, so that the first of a
 /// namespace counts.
-fn prefix_map<'h>(
-    alloc: Global,
-    hints: &[&'h Hint],
-) -> Result<BTreeMap<&'h [u8], &'h [u8]>, Memory>
+fn prefix_map<'h>(alloc: Global, hints: &[&'h Hint]) -> Result<BTreeMap<&'h [u8], &'h [u8]>, Memory>
     ensures { IfOk result (λ map. HasSpaces map (hints_of hints.now)) }
 {
     let mut map = BTreeMap::new(alloc);
@@ -88,9 +85,10 @@ impl<'h> Hinted<'h> {
 
     /// The number of hints.
     pub fn len(&self) -> usize
-        ensures { result ≡ length self.now }
+        ensures count { result ≡ length self.now }
+        ensures small { result < 2 ^ 62 }
     {
-        self.list.len()
+        self.list.as_slice().len()
     }
 
     /// The prefix that the first hint of a namespace gives it.

@@ -6,12 +6,15 @@
 #![tactic(auto)]
 
 mod forms;
+mod giving;
 mod hinted;
 mod known;
 mod packets;
+mod prefixes;
 #[cfg(test)]
 mod tests;
 mod uses;
 
 pub use forms::Form;
 pub use packets::{Packet, PacketInfo};
+pub use prefixes::Prefixes;
