@@ -33,6 +33,16 @@ pub list_any-elements : (test : Element → Bool) (cs : List Child) → list_any
 list_any-elements test [] = refl
 list_any-elements test (c ∷ cs) = any_in test (element_at c) (elements_in cs) _ (list_any-elements test cs)
 
+any_both : {X : Type 0} (other : X → Bool) (x : X) (xs : List X) (b : Bool) →
+    list_any other (cond b (x ∷ xs) xs) ≡ ((b && other x) || list_any other xs)
+any_both other x xs true = refl
+any_both other x xs false = refl
+
+pub list_any-filter : {X : Type 0} (test other : X → Bool) (xs : List X) → list_any other (filter test xs) ≡ list_any (λ x. test x && other x) xs
+list_any-filter test other [] = refl
+list_any-filter test other (x ∷ xs) =
+    any_both other x (filter test xs) (test x) ∙ ap (λ (b : Bool). (test x && other x) || b) (list_any-filter test other xs)
+
 -- the elements that pass, as a count of children
 count_in : (test : Element → Bool) (o : Option Element) (es : List Element) (cs : List Child) (c : Child) → length cs ≡ length (filter test es) →
     length (cond (passes test o) (c ∷ cs) cs) ≡ length (filter test (cons_option o es))

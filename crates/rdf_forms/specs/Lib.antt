@@ -7,5 +7,7 @@ pub mod Visits
 pub mod NameRules
 pub mod FormRules
 pub mod MemberRules
+pub mod Entering
 pub mod Rules
+pub mod Broken
 pub mod Meaning

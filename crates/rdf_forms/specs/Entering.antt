@@ -1,0 +1,26 @@
+-- What a set of names holds, and what entering names in it gives.
+use Rattle.std.specs.Prelude.{◌≡◌, ◌↔◌, Bool, true, false, ◌||◌, List, ◌++◌, Option, Some, None, Contains}
+use Rattle.xmp_values.specs.declared.text.Name.{Name}
+use Rattle.rdf_forms.specs.MemberRules.{has_again, has_common, other_names}
+
+-- the set holds these names, in an order of its own
+abbrev pub Holds : List Name → List Name → Type 0
+Holds set names = (n : Name) → Contains set n ↔ Contains names n
+
+-- one of these names stands among those, or again behind itself
+abbrev pub clashes : List Name → List Name → Bool
+clashes ns those = has_common ns those || has_again ns
+
+-- names, or those of them that aren't `rdf:value`
+abbrev pub entered : Bool → List Name → List Name
+entered true ns = other_names ns
+entered false ns = ns
+
+pub record IsEntered (those ns set : List Name) : Type 0 where
+  pub apart : clashes ns those ≡ false
+  pub holds : Holds set (those ++ ns)
+
+-- what entering names in a set of those gives: none where they clash, else the set of both
+abbrev pub Enters : List Name → List Name → Option (List Name) → Type 0
+Enters those ns None = clashes ns those ≡ true
+Enters those ns (Some set) = IsEntered those ns set

@@ -1,0 +1,111 @@
+//! Names of members, entered in a set, which tells whether one of them stands again.
+ghost use Rattle.std.specs.Prelude.{◌≡◌, [], ◌∷◌, ◌++◌, ◌&&◌, not, map, filter, IfOk, OnOk, codes};
+ghost use Rattle.xml_grammar.specs.declared.elements.Attribute.{Attribute as AttributeView};
+ghost use Rattle.rdf_forms.specs.Words.{is_rdf, is_own};
+ghost use Rattle.rdf_forms.specs.Parts.{name_of, elements_in, elements_of, own_attributes};
+ghost use Rattle.rdf_forms.specs.MemberRules.{attribute_names, member_names};
+ghost use Rattle.rdf_forms.specs.Entering.{Holds, clashes, entered, Enters};
+
+use crate::parts::as_element;
+use crate::words::{is_own, is_rdf};
+use xml_grammar::{Attribute, Child, Element};
+use xmp_values::{Memory, Name, NameSet};
+
+fn is_left_out(leaves_value: bool, name: &Name<'_>) -> bool
+    ensures { result ≡ (leaves_value && is_rdf (codes "value") name.now) }
+{
+    leaves_value && is_rdf(b"value".as_slice(), name)
+}
+
+/// Enters a name, unless it is `rdf:value` and that is left out; tells whether none stood there.
+fn enter_name<'e>(
+    seen: &mut NameSet<'e>,
+    name: &'e Name<'_>,
+    leaves_value: bool,
+) -> Result<bool, Memory>
+    ensures apart { IfOk result (λ apart. apart ≡ not (clashes (entered leaves_value (name.now ∷ [])) seen.old)) }
+    ensures holds { OnOk result (Holds seen.new (seen.old ++ entered leaves_value (name.now ∷ []))) }
+{
+    if is_left_out(leaves_value, name) {
+        return Ok(true);
+    }
+    let is_new = seen.insert(name.space.bytes(), name.local.bytes())?;
+    Ok(is_new)
+}
+
+/// Enters the name of a child, if it is an element.
+fn enter_child<'e>(
+    seen: &mut NameSet<'e>,
+    child: &'e Child<'_>,
+    leaves_value: bool,
+) -> Result<bool, Memory>
+    ensures apart { IfOk result (λ apart. apart ≡ not (clashes (entered leaves_value (map name_of (elements_in (child.now ∷ [])))) seen.old)) }
+    ensures holds { OnOk result (Holds seen.new (seen.old ++ entered leaves_value (map name_of (elements_in (child.now ∷ []))))) }
+{
+    match as_element(child) {
+        Some(element) => enter_name(seen, &element.name, leaves_value),
+        None => Ok(true),
+    }
+}
+
+/// Enters the name of an attribute, if it is a property attribute.
+fn enter_attribute<'e>(
+    seen: &mut NameSet<'e>,
+    attribute: &'e Attribute<'_>,
+    leaves_value: bool,
+) -> Result<bool, Memory>
+    ensures apart { IfOk result (λ apart. apart ≡ not (clashes (entered leaves_value (attribute_names (filter (λ (a : AttributeView). is_own a.name) (attribute.now ∷ [])))) seen.old)) }
+    ensures holds { OnOk result (Holds seen.new (seen.old ++ entered leaves_value (attribute_names (filter (λ (a : AttributeView). is_own a.name) (attribute.now ∷ []))))) }
+{
+    if is_own(&attribute.name) {
+        enter_name(seen, &attribute.name, leaves_value)
+    } else {
+        Ok(true)
+    }
+}
+
+/// Enters the names of the child elements; None where one of them stood there.
+pub fn enter_elements<'e>(
+    mut seen: NameSet<'e>,
+    element: &'e Element<'_>,
+    leaves_value: bool,
+) -> Result<Option<NameSet<'e>>, Memory>
+    ensures { IfOk result (Enters seen.entry (entered leaves_value (map name_of (elements_of element.now)))) }
+{
+    for child in element.children.as_slice() {
+        if !enter_child(&mut seen, child, leaves_value)? {
+            return Ok(None);
+        }
+    }
+    Ok(Some(seen))
+}
+
+/// Enters the names of the property attributes; None where one of them stood there.
+fn enter_attributes<'e>(
+    mut seen: NameSet<'e>,
+    element: &'e Element<'_>,
+    leaves_value: bool,
+) -> Result<Option<NameSet<'e>>, Memory>
+    ensures { IfOk result (Enters seen.entry (entered leaves_value (attribute_names (own_attributes element.now)))) }
+{
+    for attribute in element.attributes.as_slice() {
+        if !enter_attribute(&mut seen, attribute, leaves_value)? {
+            return Ok(None);
+        }
+    }
+    Ok(Some(seen))
+}
+
+/// Enters the names of the members of a top or a node; None where one of them stood there.
+pub fn enter_members<'e>(
+    seen: NameSet<'e>,
+    element: &'e Element<'_>,
+    leaves_value: bool,
+) -> Result<Option<NameSet<'e>>, Memory>
+    ensures { IfOk result (Enters seen.entry (entered leaves_value (member_names element.now))) }
+{
+    match enter_attributes(seen, element, leaves_value)? {
+        Some(more) => enter_elements(more, element, leaves_value),
+        None => Ok(None),
+    }
+}
