@@ -16,7 +16,8 @@ use Rattle.std.proofs.lemmas.Cmp.{nat_list_cmp_total, tied_itself}
 use Rattle.std.proofs.lemmas.Map.Lookups.{exact_bytes}
 use Rattle.std.proofs.lemmas.Map.Text.{is_eq-slice_cmp}
 use Rattle.xmp_values.specs.declared.hints.Hint.{Hint}
-use Rattle.xmp_write.specs.Prefixes.{fixed_prefix, prefix_in, written_prefix}
+use Rattle.known_prefixes.specs.Prefixes.{fixed_prefix}
+use Rattle.xmp_write.specs.Prefixes.{prefix_in, written_prefix}
 use Rattle.xmp_write.specs.Places.{place_in, HasPlacesFrom}
 use Rattle.xmp_write.proofs.OwnedTexts.{by_bytes, is_text}
 

@@ -1,45 +1,13 @@
 -- The prefixes of a written text: a list of namespaces by first use, each with its prefix.
 -- A namespace beside its prefix is a `Hint`, as in a text that is read.
-use Rattle.std.specs.Prelude.{ℕ, ◌+◌, Bool, not, ◌&&◌, ◌||◌, if◌then◌else◌, codes, decimal, List, [], ◌∷◌, ◌++◌, length, fold, take, Option, Some, None, unwrap_or}
+use Rattle.std.specs.Prelude.{ℕ, ◌+◌, Bool, not, ◌&&◌, ◌||◌, if◌then◌else◌, codes, decimal, List, [], ◌∷◌, ◌++◌, length, fold, Option, Some, None, unwrap_or}
 use Rattle.std.specs.List.{list_any, position_or_len, range_with_len}
-use Rattle.std.specs.Map.{lookup}
-use Rattle.std.specs.Str.{bytes_eq, str_eq_ignore_ascii_case}
+use Rattle.std.specs.Str.{bytes_eq}
 use Rattle.xmp_values.specs.declared.hints.Hint.{Hint}
-use Rattle.xmp_values.specs.Spaces.{rdf_space, xml_space, meta_space}
+use Rattle.known_prefixes.specs.Prefixes.{fixed_prefix, known_prefix, is_fixed, is_known, begins_xml}
 use Rattle.xmp_tree.specs.Parts.{Parts}
 use Rattle.xmp_write.specs.declared.forms.Form.{Form}
 use Rattle.xmp_write.specs.Written.{written_spaces}
-
--- Namespaces that keep their prefixes and aren't declared with the others: `rdf:RDF` and `x:xmpmeta`
--- declare two of them, and `xml` is bound everywhere.
-abbrev pub fixed_prefixes : List (List ℕ × List ℕ)
-fixed_prefixes = (rdf_space, codes "rdf") ∷ (xml_space, codes "xml") ∷ (meta_space, codes "x") ∷ []
-
--- The namespaces whose prefix is known, each beside it (ISO 16684-1, clause 8; XMP Specification Part 2).
-abbrev pub known_prefixes : List (List ℕ × List ℕ)
-known_prefixes = fixed_prefixes ++ (
-    (codes "http://purl.org/dc/elements/1.1/", codes "dc")
-    ∷ (codes "http://ns.adobe.com/xap/1.0/", codes "xmp")
-    ∷ (codes "http://ns.adobe.com/xap/1.0/mm/", codes "xmpMM")
-    ∷ (codes "http://ns.adobe.com/xap/1.0/rights/", codes "xmpRights")
-    ∷ (codes "http://ns.adobe.com/photoshop/1.0/", codes "photoshop")
-    ∷ (codes "http://ns.adobe.com/tiff/1.0/", codes "tiff")
-    ∷ (codes "http://ns.adobe.com/exif/1.0/", codes "exif")
-    ∷ (codes "http://ns.adobe.com/xmp/note/", codes "xmpNote")
-    ∷ (codes "http://iptc.org/std/Iptc4xmpCore/1.0/xmlns/", codes "Iptc4xmpCore")
-    ∷ [])
-
-abbrev pub fixed_prefix : List ℕ → Option (List ℕ)
-fixed_prefix space = lookup (bytes_eq space) fixed_prefixes
-
-abbrev pub known_prefix : List ℕ → Option (List ℕ)
-known_prefix space = lookup (bytes_eq space) known_prefixes
-
-abbrev pub is_fixed : List ℕ → Bool
-is_fixed space = list_any (λ known. bytes_eq space known.0) fixed_prefixes
-
-abbrev pub is_known : List ℕ → Bool
-is_known prefix = list_any (λ known. bytes_eq prefix known.1) known_prefixes
 
 -- A namespace behind those that are used before it, unless it is one of them or is fixed.
 abbrev pub with_use : List (List ℕ) → List ℕ → List (List ℕ)
@@ -57,10 +25,6 @@ prefix_in (h ∷ hs) space = if bytes_eq space h.space then Some h.prefix else p
 -- whether a list has a prefix
 abbrev pub has_prefix : List Hint → List ℕ → Bool
 has_prefix hs prefix = list_any (λ h. bytes_eq prefix h.prefix) hs
-
--- A name that begins with `xml`, in any case, is reserved (Namespaces in XML 1.0, section 3).
-abbrev pub begins_xml : List ℕ → Bool
-begins_xml prefix = str_eq_ignore_ascii_case (take 3 prefix) (codes "xml")
 
 -- a hint's prefix, if it is none of the known, isn't reserved and isn't given yet
 abbrev pub fitting : List Hint → Option (List ℕ) → Option (List ℕ)
