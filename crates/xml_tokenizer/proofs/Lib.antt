@@ -19,4 +19,5 @@ pub mod FaultLaws
 pub mod Found
 pub mod Sure
 pub mod AsciiBytes
+pub mod Literals
 pub mod PlainLaws

@@ -1,12 +1,12 @@
 -- Runs by bytes: bytes that tell by themselves that their characters are of the class.
-use Rattle.std.proofs.Common.{◌≡◌, ◌≢◌, ℕ, ◌+◌, ◌/◌, ◌%◌, ◌<◌, ◌≤◌, Bool, true, false, eqb, ltb, not, ◌&&◌, List, [], ◌∷◌, ◌++◌, length, drop, refl, sym, ap, subst, ◌∙◌, length-append, arith}
+use Rattle.std.proofs.Common.{◌≡◌, ◌≢◌, ℕ, ◌+◌, ◌/◌, ◌%◌, ◌<◌, ◌≤◌, Bool, true, false, eqb, ltb, not, ◌&&◌, List, [], ◌∷◌, ◌++◌, length, drop, refl, sym, ap, subst, ◌∙◌, length-append, length-drop, append-nil, arith}
 use Rattle.std.specs.Prelude.{IsTrue, encode_utf8, encode_utf8_all}
 use Rattle.std.specs.List.{list_all, prefix_len}
 use Rattle.std.specs.Str.{chars, all_scalars, IsUtf8, IsCharBoundary}
 use Rattle.std.proofs.lemmas.Bool.{eqb-false, ne_eqb, ltb-true, ltb-false, lt-ltb, le-ltb}
 use Rattle.std.proofs.lemmas.Bool.Decides.{nat_tests}
-use Rattle.std.proofs.lemmas.Str.{encode_ascii, encodes-chars, scalars-chars, encodes-append, chars-encodes, IsCharBoundary-at_seam}
-use Rattle.std.proofs.lemmas.List.{drop_at}
+use Rattle.std.proofs.lemmas.Str.{encode_ascii, chars-nil, encodes-chars, scalars-chars, encodes-append, chars-encodes, IsCharBoundary-at_seam}
+use Rattle.std.proofs.lemmas.List.{drop_at, nil_from_length}
 use lib.Utf8.{encode, scalar}
 use Rattle.xmp_values.specs.Characters.{is_char}
 use Rattle.xml_grammar.proofs.Splits.{both, all_cons}
@@ -163,3 +163,11 @@ skips_of class text n u is =
       boundary = subst (IsCharBoundary text) long (IsCharBoundary-at_seam text (encode_utf8_all f.front) (encode_utf8_all f.rest) at rest_text);
       passes = (f.front, f.all, at ∙ ap (λ (t : List ℕ). encode_utf8_all f.front ++ t) (sym dropped), f.parts ∙ ap (λ (t : List ℕ). f.front ++ t) (sym (ap chars dropped ∙ chars-encodes f.rest rest_scalars)));
     }
+
+-- bytes that are all sure are of characters of the class
+pub all_sure : (class : Class) (text : List ℕ) → IsUtf8 text → list_all (is_sure class) text ≡ true → list_all (has class) (chars text) ≡ true
+all_sure class text u h =
+    let whole : prefix_len (is_sure class) text ≡ length text = ap (prefix_len (is_sure class)) (sym (append-nil text)) ∙ prefix_all (is_sure class) text [] h ∙ omega arith in
+    let p = (skips_of class text (length text) u (sym whole)).passes in
+    let none : chars (drop (length text) text) ≡ [] = ap chars (nil_from_length (drop (length text) text) (omega (arith, length-drop (length text) text))) ∙ chars-nil in
+    ap (list_all (has class)) (p.3 ∙ ap (λ (t : List ℕ). p.0 ++ t) none ∙ append-nil p.0) ∙ p.1

@@ -5,9 +5,13 @@ use Rattle.xml_grammar.specs.Spelling.{is_digit}
 use Rattle.xml_tokenizer.specs.declared.classes.Class.{Class}
 use Rattle.xml_tokenizer.specs.declared.classes.Class.TheVariants.{NameChar, Blank, Decimal, Char, Plain, Value}
 
+-- neither `<` nor `&` nor CR, which never stand for themselves
+abbrev pub is_literal : ℕ → Bool
+is_literal c = not (c == 60 || c == 38 || c == 13)
+
 -- a Char that stands for itself, but for `]` in the end of a CDATA section
 unfoldable pub is_plain : ℕ → Bool
-is_plain c = is_char c && not (c == 60 || c == 38 || c == 13)
+is_plain c = is_char c && is_literal c
 
 -- a Char that stands for itself in a value between these quotes
 unfoldable pub is_value : ℕ → ℕ → Bool

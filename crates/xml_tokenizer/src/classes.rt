@@ -1,6 +1,7 @@
 //! Classes of characters.
 
 ghost use Rattle.std.specs.Prelude.{◌≡◌};
+ghost use Rattle.xml_tokenizer.specs.declared.classes.Class.TheVariants.{Char};
 ghost use Rattle.xml_tokenizer.specs.Classes.{has, is_plain, is_value, is_sure, is_wide};
 
 use xmp_values::{is_blank, is_char, is_name_char};
@@ -30,6 +31,14 @@ fn is_value(quote: char, c: char) -> bool
     ensures { result ≡ is_value quote c }
 {
     is_char(c) && !(c == '<' || c == '&' || c == quote || c == '\t' || c == '\n' || c == '\r')
+}
+
+/// Whether a byte, wherever it stands in UTF-8, is of a Char.
+#[tactic(auto, unfolding(crate::specs::Classes::is_sure, xmp_values::specs::Characters::is_char))]
+pub fn is_char_byte(byte: u8) -> bool
+    ensures { result ≡ is_sure Char byte }
+{
+    (byte >= 0x20 && byte != 0xEF) || matches!(byte, b'\t' | b'\n' | b'\r')
 }
 
 pub fn has(class: Class, c: char) -> bool

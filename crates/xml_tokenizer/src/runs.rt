@@ -4,13 +4,14 @@ ghost use Rattle.std.specs.Prelude.{◌≡◌, ◌<◌, ◌≤◌, [], ◌∷◌
 ghost use Rattle.std.specs.List.{list_all, prefix_len};
 ghost use Rattle.std.specs.Str.{chars};
 ghost use Rattle.xmp_values.specs.Characters.{is_char};
+ghost use Rattle.xml_tokenizer.specs.declared.classes.Class.TheVariants.{Char};
 ghost use Rattle.xml_tokenizer.specs.Classes as classes;
 ghost use Rattle.xml_tokenizer.specs.Runs.{Passes, taken, past, after, begins, starts_with, is_ascii, width, up_to};
 ghost use Rattle.xml_tokenizer.specs.Steps.{Gives};
 
-use crate::classes::{Class, has, is_sure};
+use crate::classes::{Class, has, is_char_byte, is_sure};
 use crate::stops::Miss;
-use memchr::memmem;
+use memchr::{memchr3, memmem};
 
 /// The first character, and the text after it.
 pub fn next_char(text: &str) -> Option<(char, &str)>
@@ -133,11 +134,45 @@ pub fn after_char(c: char, text: &str) -> Result<&str, Miss>
     }
 }
 
+/// Whether all bytes tell by themselves that they are of Chars. No byte ends the loop, so that it runs on vectors.
+fn are_char_bytes(bytes: &[u8]) -> bool
+    ensures { result ≡ list_all (classes.is_sure Char) bytes.now }
+{
+    let mut sure = true;
+    for byte in bytes {
+        sure &= is_char_byte(*byte);
+    }
+    sure
+}
+
 /// Whether the text is of Chars alone.
 fn are_chars(text: &str) -> bool
     ensures { result ≡ list_all is_char (chars text.now) }
 {
-    past_run(Class::Char, text).is_empty()
+    are_char_bytes(text.as_bytes()) || past_run(Class::Char, text).is_empty()
+}
+
+/// The text before its first `<`, `&` or CR, and the text from there on.
+fn until_markup(text: &str) -> (&str, &str)
+    ensures front { chars result.0.now ≡ taken classes.is_literal (chars text.now) }
+    ensures rest { chars result.1.now ≡ past classes.is_literal (chars text.now) }
+{
+    match memchr3(b'<', b'&', b'\r', text.as_bytes()) {
+        Some(at) => text.split_at(at),
+        None => (text, ""),
+    }
+}
+
+/// `run` of plain characters: a search for what ends it, and one look at the bytes before that.
+pub fn plain_text(text: &str) -> (&str, &str)
+    ensures front { result.0.now ≡ encode_utf8_all (taken classes.is_plain (chars text.now)) }
+    ensures rest { chars result.1.now ≡ past classes.is_plain (chars text.now) }
+{
+    let (front, rest) = until_markup(text);
+    if are_char_bytes(front.as_bytes()) {
+        return (front, rest);
+    }
+    run(Class::Plain, text)
 }
 
 /// The Chars up to a word, and the text after the word.

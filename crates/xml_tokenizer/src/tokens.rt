@@ -11,7 +11,7 @@ ghost use Rattle.xml_tokenizer.specs.Steps.{Gives};
 use crate::classes::Class;
 use crate::declarations::declaration_of;
 use crate::references::reference_of;
-use crate::runs::{after, before, begins, behind, next_char, run, starts_with};
+use crate::runs::{after, before, begins, behind, next_char, plain_text, starts_with};
 use crate::sections::{cdata_of, past_comment, past_instruction};
 use crate::stops::{Miss, TokenStop};
 use crate::tags::{end_of, start_of};
@@ -95,7 +95,7 @@ fn plain_run(inside: bool, text: &str) -> (&str, &str)
     ensures front { result.0.now ≡ encode_utf8_all (plain_front inside (chars text.now)) }
     ensures rest { chars result.1.now ≡ plain_back inside (chars text.now) }
 {
-    let (plain, rest) = run(Class::Plain, text);
+    let (plain, rest) = plain_text(text);
     if !inside {
         return (plain, rest);
     }
