@@ -6,6 +6,9 @@
 //! ISO 16684-1, 7.3 to 7.9; RDF/XML Syntax.
 #![tactic(auto)]
 
+mod meanings;
 mod members;
 mod texts;
 mod values;
+
+pub use meanings::{Meaning, Places};
