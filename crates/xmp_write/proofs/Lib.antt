@@ -5,3 +5,5 @@ pub mod OwnedTexts
 pub mod Numbers
 pub mod GivingSteps
 pub mod PlaceMaps
+pub mod LineLevels
+pub mod WritingSteps

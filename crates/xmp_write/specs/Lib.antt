@@ -6,3 +6,4 @@ pub mod Hinted
 pub mod Giving
 pub mod Places
 pub mod Lines
+pub mod Writing

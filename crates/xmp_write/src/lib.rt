@@ -9,6 +9,7 @@ mod forms;
 mod giving;
 mod hinted;
 mod known;
+mod listing;
 mod packets;
 mod prefixes;
 #[cfg(test)]
@@ -16,5 +17,6 @@ mod tests;
 mod uses;
 
 pub use forms::Form;
+pub use listing::lines;
 pub use packets::{Packet, PacketInfo};
 pub use prefixes::Prefixes;

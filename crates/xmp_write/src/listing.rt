@@ -1,0 +1,223 @@
+//! The lines that show a tree: `PATH KIND REST`, each ended by LF.
+ghost use Rattle.std.specs.Prelude.{◌≡◌, ◌+◌, ◌++◌, ◌∷◌, [], ℕ, codes, length, decimal, IfOk, OnOk};
+ghost use Rattle.std.specs.List.{flat_map};
+ghost use Rattle.xmp_tree.specs.declared.nested.Shape.{out-Shape};
+ghost use Rattle.xmp_write.specs.Writing.{Adds, items_from};
+ghost use Rattle.xmp_write.specs.Lines.{shown, shown_byte, spelled, shape_word, kind_word, value_lines, shape_lines, member_lines, item_path, qualifier_path, field_path, lines};
+
+use crate::prefixes::Prefixes;
+use itoa::Buffer;
+use std::alloc::Global;
+use xmp_tree::{Kind, Member, Shape, Tree, Value};
+use xmp_values::{Bytes, Memory, Name};
+
+/// The lines written so far, and the path of what is written next. It is one buffer, cut back on
+/// the way out of a value.
+#[derive(Drop)]
+struct Writer {
+    text: Vec<u8>,
+    path: Vec<u8>,
+}
+
+/// Puts a byte at the end, or what stands for it on a line.
+fn push_shown_byte(out: &mut Vec<u8>, byte: u8) -> Result<(), Memory>
+    ensures { OnOk result (out.new.items ≡ out.old.items ++ shown_byte byte) }
+{
+    match byte {
+        b'\\' => out.extend_from_slice(b"\\\\")?,
+        b'\n' => out.extend_from_slice(b"\\n")?,
+        b'\r' => out.extend_from_slice(b"\\r")?,
+        b'\t' => out.extend_from_slice(b"\\t")?,
+        _ => out.push(byte)?,
+    }
+    Ok(())
+}
+
+/// Puts a text at the end, so that it stays on its line.
+fn push_shown(out: &mut Vec<u8>, text: &[u8]) -> Result<(), Memory>
+    ensures { OnOk result (out.new.items ≡ out.old.items ++ shown text.now) }
+{
+    for byte in text {
+        push_shown_byte(out, *byte)?;
+    }
+    Ok(())
+}
+
+/// Puts a number in decimal at the end.
+fn push_number(out: &mut Vec<u8>, number: usize) -> Result<(), Memory>
+    ensures { OnOk result (out.new.items ≡ out.old.items ++ decimal number) }
+{
+    let mut digits = Buffer::new();
+    out.extend_from_slice(digits.format(number).as_bytes())?;
+    Ok(())
+}
+
+fn kind_word(kind: Kind) -> &'static [u8]
+    ensures { result.now ≡ kind_word kind }
+{
+    match kind {
+        Kind::Bag => b"bag ",
+        Kind::Seq => b"seq ",
+        Kind::Alt => b"alt ",
+    }
+}
+
+/// Puts what a value is at the end: its kind, and its text or the number of its parts.
+fn push_shape_word(out: &mut Vec<u8>, shape: &Shape<'_>) -> Result<(), Memory>
+    ensures { OnOk result (out.new.items ≡ out.old.items ++ shape_word (out-Shape shape.now)) }
+{
+    match shape {
+        Shape::Simple(text) => {
+            out.extend_from_slice(b"text ")?;
+            push_shown(out, text.bytes())
+        }
+        Shape::Uri(text) => {
+            out.extend_from_slice(b"uri ")?;
+            push_shown(out, text.bytes())
+        }
+        Shape::Struct(fields) => {
+            out.extend_from_slice(b"struct ")?;
+            push_number(out, fields.len())
+        }
+        Shape::Array(kind, items) => {
+            out.extend_from_slice(kind_word(*kind))?;
+            push_number(out, items.len())
+        }
+    }
+}
+
+/// Puts a name with its prefix at the end.
+fn push_name(out: &mut Vec<u8>, prefixes: &Prefixes, name: &Name<'_>) -> Result<(), Memory>
+    ensures { OnOk result (out.new.items ≡ out.old.items ++ spelled prefixes.now name.now) }
+{
+    out.extend_from_slice(prefixes.prefix_of(name.space.bytes()))?;
+    out.extend_from_slice(b":")?;
+    out.extend_from_slice(name.local.bytes())?;
+    Ok(())
+}
+
+impl Writer {
+    /// Puts the line of a value at the path.
+    fn push_line(&mut self, shape: &Shape<'_>) -> Result<(), Memory>
+        ensures { OnOk result (Adds self.old self.new (self.old.path.items ++ codes " " ++ shape_word (out-Shape shape.now) ++ codes "\n")) }
+    {
+        self.text.extend_from_slice(self.path.as_slice())?;
+        self.text.extend_from_slice(b" ")?;
+        push_shape_word(&mut self.text, shape)?;
+        self.text.extend_from_slice(b"\n")?;
+        Ok(())
+    }
+
+    /// Goes on to a name behind the path.
+    fn enter(&mut self, prefixes: &Prefixes, name: &Name<'_>) -> Result<(), Memory>
+        ensures text { self.new.text.items ≡ self.old.text.items }
+        ensures path { OnOk result (self.new.path.items ≡ self.old.path.items ++ spelled prefixes.now name.now) }
+    {
+        push_name(&mut self.path, prefixes, name)
+    }
+
+    /// Goes on to an item behind the path.
+    fn enter_item(&mut self, number: usize) -> Result<(), Memory>
+        ensures text { self.new.text.items ≡ self.old.text.items }
+        ensures path { OnOk result (self.new.path.items ≡ item_path self.old.path.items number) }
+    {
+        self.path.extend_from_slice(b"[")?;
+        push_number(&mut self.path, number)?;
+        self.path.extend_from_slice(b"]")?;
+        Ok(())
+    }
+}
+
+/// Puts the lines of a value at the path: its own, then those of its qualifiers, then those of its
+/// fields or items.
+#[cycle(lines)]
+fn push_value(writer: &mut Writer, prefixes: &Prefixes, value: &Value<'_>) -> Result<(), Memory>
+    ensures { OnOk result (Adds writer.old writer.new (value_lines prefixes.now writer.old.path.items value.now)) }
+{
+    writer.push_line(&value.shape)?;
+    push_members(writer, prefixes, b"/?", value.quals.as_slice())?;
+    push_shape(writer, prefixes, &value.shape)
+}
+
+#[cycle(lines)]
+fn push_shape(writer: &mut Writer, prefixes: &Prefixes, shape: &Shape<'_>) -> Result<(), Memory>
+    ensures { OnOk result (Adds writer.old writer.new (shape_lines prefixes.now writer.old.path.items shape.now)) }
+{
+    match shape {
+        Shape::Simple(_) | Shape::Uri(_) => Ok(()),
+        Shape::Struct(fields) => push_members(writer, prefixes, b"/", fields.as_slice()),
+        Shape::Array(_, items) => push_items(writer, prefixes, items.as_slice()),
+    }
+}
+
+/// Puts the lines of members whose names stand behind the path and a separator.
+#[cycle(lines)]
+fn push_members(
+    writer: &mut Writer,
+    prefixes: &Prefixes,
+    separator: &[u8],
+    members: &[Member<'_>],
+) -> Result<(), Memory>
+    ensures { OnOk result (Adds writer.old writer.new (flat_map (member_lines prefixes.now (writer.old.path.items ++ separator.now)) members.now)) }
+{
+    let len = writer.path.len();
+    writer.path.extend_from_slice(separator)?;
+    for member in members {
+        push_member(writer, prefixes, member)?;
+    }
+    writer.path.truncate(len);
+    Ok(())
+}
+
+#[cycle(lines)]
+fn push_member(writer: &mut Writer, prefixes: &Prefixes, member: &Member<'_>) -> Result<(), Memory>
+    ensures { OnOk result (Adds writer.old writer.new (member_lines prefixes.now writer.old.path.items member.now)) }
+{
+    let len = writer.path.len();
+    writer.enter(prefixes, &member.name)?;
+    push_value(writer, prefixes, &member.value)?;
+    writer.path.truncate(len);
+    Ok(())
+}
+
+#[cycle(lines)]
+fn push_items(writer: &mut Writer, prefixes: &Prefixes, items: &[Value<'_>]) -> Result<(), Memory>
+    ensures { OnOk result (Adds writer.old writer.new (items_from prefixes.now writer.old.path.items 1 items.now)) }
+{
+    for at in 0..items.len() {
+        push_item(writer, prefixes, at + 1, &items[at])?;
+    }
+    Ok(())
+}
+
+#[cycle(lines)]
+fn push_item(
+    writer: &mut Writer,
+    prefixes: &Prefixes,
+    number: usize,
+    item: &Value<'_>,
+) -> Result<(), Memory>
+    ensures { OnOk result (Adds writer.old writer.new (value_lines prefixes.now (item_path writer.old.path.items number) item.now)) }
+{
+    let len = writer.path.len();
+    writer.enter_item(number)?;
+    push_value(writer, prefixes, item)?;
+    writer.path.truncate(len);
+    Ok(())
+}
+
+/// The lines of a tree with the prefixes of its text: `about VALUE`, then for each property, and
+/// for each of its parts, `PATH KIND REST`. With the prefixes of the tree and of the form of every
+/// property without a note each name has its prefix.
+pub fn lines(alloc: Global, tree: &Tree<'_>, prefixes: &Prefixes) -> Result<Bytes, Memory>
+    ensures { IfOk result (λ bytes. bytes ≡ lines prefixes.now tree.now) }
+{
+    let mut writer = Writer {
+        text: Vec::from_slice(alloc, b"about ")?,
+        path: Vec::new(alloc),
+    };
+    push_shown(&mut writer.text, tree.about.bytes())?;
+    writer.text.extend_from_slice(b"\n")?;
+    push_members(&mut writer, prefixes, b"", tree.props.as_slice())?;
+    Ok(Bytes::from_vec(writer.text))
+}
