@@ -6,6 +6,7 @@
 //! ISO 16684-1, 7.3 to 7.9; RDF/XML Syntax.
 #![tactic(auto)]
 
+mod hints;
 mod meanings;
 mod members;
 mod texts;
