@@ -13,7 +13,7 @@ use Rattle.xml_grammar.specs.declared.elements.Element.{Element}
 use Rattle.rdf_forms.specs.Words.{is_rdf, is_own}
 use Rattle.rdf_forms.specs.Parts.{name_of, element_at, elements_in}
 use Rattle.rdf_forms.specs.MemberRules.{has_again, has_common, attribute_names}
-use Rattle.rdf_forms.specs.Entering.{Holds, clashes, entered, IsEntered, Enters}
+use Rattle.rdf_forms.specs.Entering.{element_names, own_names, Holds, clashes, entered, IsEntered, Enters}
 use Rattle.rdf_forms.proofs.Clashes.{clashes-held, clashes-append}
 use Rattle.rdf_forms.proofs.Entered.{holds_itself}
 
@@ -76,10 +76,10 @@ entered-append false ns ms = refl
 
 -- the names that a child, or an attribute, gives
 abbrev pub child_names : Bool → Child → List Name
-child_names leaves c = entered leaves (map name_of (elements_in (c ∷ [])))
+child_names leaves c = entered leaves (element_names (c ∷ []))
 
 abbrev pub own_name : Bool → Attribute → List Name
-own_name leaves a = entered leaves (attribute_names (filter (λ (b : Attribute). is_own b.name) (a ∷ [])))
+own_name leaves a = entered leaves (own_names (a ∷ []))
 
 nothing_entered : (leaves : Bool) → [] ≡ entered leaves []
 nothing_entered true = refl
@@ -89,7 +89,7 @@ elements_split : (o : Option Element) (es : List Element) → cons_option o es �
 elements_split None es = refl
 elements_split (Some e) es = refl
 
-pub names-children : (leaves : Bool) (cs : List Child) → flat_map (child_names leaves) cs ≡ entered leaves (map name_of (elements_in cs))
+pub names-children : (leaves : Bool) (cs : List Child) → flat_map (child_names leaves) cs ≡ entered leaves (element_names cs)
 names-children leaves [] = nothing_entered leaves
 names-children leaves (c ∷ cs) =
     let one = elements_in (c ∷ []) in
@@ -98,7 +98,7 @@ names-children leaves (c ∷ cs) =
     ∙ ap (entered leaves) (sym (map-append name_of one (elements_in cs)))
     ∙ ap (λ es. entered leaves (map name_of es)) (sym (elements_split (element_at c) (elements_in cs)))
 
-pub names-attributes : (leaves : Bool) (xs : List Attribute) → flat_map (own_name leaves) xs ≡ entered leaves (attribute_names (filter (λ (b : Attribute). is_own b.name) xs))
+pub names-attributes : (leaves : Bool) (xs : List Attribute) → flat_map (own_name leaves) xs ≡ entered leaves (own_names xs)
 names-attributes leaves [] = nothing_entered leaves
 names-attributes leaves (a ∷ xs) =
     let own = λ (b : Attribute). is_own b.name in

@@ -1,7 +1,11 @@
 -- What a set of names holds, and what entering names in it gives.
-use Rattle.std.specs.Prelude.{◌≡◌, ◌↔◌, Bool, true, false, ◌||◌, List, ◌++◌, Option, Some, None, Contains}
+use Rattle.std.specs.Prelude.{◌≡◌, ◌↔◌, Bool, true, false, ◌||◌, List, ◌++◌, Option, Some, None, Contains, map, filter}
 use Rattle.xmp_values.specs.declared.text.Name.{Name}
-use Rattle.rdf_forms.specs.MemberRules.{has_again, has_common, other_names}
+use Rattle.xml_grammar.specs.declared.elements.Attribute.{Attribute}
+use Rattle.xml_grammar.specs.declared.elements.Child.{Child}
+use Rattle.rdf_forms.specs.Words.{is_own}
+use Rattle.rdf_forms.specs.Parts.{name_of, elements_in}
+use Rattle.rdf_forms.specs.MemberRules.{has_again, has_common, attribute_names, other_names}
 
 -- the set holds these names, in an order of its own
 abbrev pub Holds : List Name → List Name → Type 0
@@ -10,6 +14,13 @@ Holds set names = (n : Name) → Contains set n ↔ Contains names n
 -- one of these names stands among those, or again behind itself
 abbrev pub clashes : List Name → List Name → Bool
 clashes ns those = has_common ns those || has_again ns
+
+-- the names of the elements among children, and of the property attributes among attributes
+abbrev pub element_names : List Child → List Name
+element_names cs = map name_of (elements_in cs)
+
+abbrev pub own_names : List Attribute → List Name
+own_names attributes = attribute_names (filter (λ (a : Attribute). is_own a.name) attributes)
 
 -- names, or those of them that aren't `rdf:value`
 abbrev pub entered : Bool → List Name → List Name

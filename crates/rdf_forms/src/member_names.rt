@@ -1,10 +1,9 @@
 //! Names of members, entered in a set, which tells whether one of them stands again.
-ghost use Rattle.std.specs.Prelude.{◌≡◌, [], ◌∷◌, ◌++◌, ◌&&◌, not, map, filter, IfOk, OnOk, codes};
-ghost use Rattle.xml_grammar.specs.declared.elements.Attribute.{Attribute as AttributeView};
-ghost use Rattle.rdf_forms.specs.Words.{is_rdf, is_own};
-ghost use Rattle.rdf_forms.specs.Parts.{name_of, elements_in, elements_of, own_attributes};
+ghost use Rattle.std.specs.Prelude.{◌≡◌, [], ◌∷◌, ◌++◌, ◌&&◌, not, map, IfOk, OnOk, codes};
+ghost use Rattle.rdf_forms.specs.Words.{is_rdf};
+ghost use Rattle.rdf_forms.specs.Parts.{name_of, elements_of, own_attributes};
 ghost use Rattle.rdf_forms.specs.MemberRules.{attribute_names, member_names};
-ghost use Rattle.rdf_forms.specs.Entering.{Holds, clashes, entered, Enters};
+ghost use Rattle.rdf_forms.specs.Entering.{Holds, clashes, element_names, own_names, entered, Enters};
 
 use crate::parts::as_element;
 use crate::words::{is_own, is_rdf};
@@ -39,8 +38,8 @@ fn enter_child<'e>(
     child: &'e Child<'_>,
     leaves_value: bool,
 ) -> Result<bool, Memory>
-    ensures apart { IfOk result (λ apart. apart ≡ not (clashes (entered leaves_value (map name_of (elements_in (child.now ∷ [])))) seen.old)) }
-    ensures holds { OnOk result (Holds seen.new (seen.old ++ entered leaves_value (map name_of (elements_in (child.now ∷ []))))) }
+    ensures apart { IfOk result (λ apart. apart ≡ not (clashes (entered leaves_value (element_names (child.now ∷ []))) seen.old)) }
+    ensures holds { OnOk result (Holds seen.new (seen.old ++ entered leaves_value (element_names (child.now ∷ [])))) }
 {
     match as_element(child) {
         Some(element) => enter_name(seen, &element.name, leaves_value),
@@ -54,8 +53,8 @@ fn enter_attribute<'e>(
     attribute: &'e Attribute<'_>,
     leaves_value: bool,
 ) -> Result<bool, Memory>
-    ensures apart { IfOk result (λ apart. apart ≡ not (clashes (entered leaves_value (attribute_names (filter (λ (a : AttributeView). is_own a.name) (attribute.now ∷ [])))) seen.old)) }
-    ensures holds { OnOk result (Holds seen.new (seen.old ++ entered leaves_value (attribute_names (filter (λ (a : AttributeView). is_own a.name) (attribute.now ∷ []))))) }
+    ensures apart { IfOk result (λ apart. apart ≡ not (clashes (entered leaves_value (own_names (attribute.now ∷ []))) seen.old)) }
+    ensures holds { OnOk result (Holds seen.new (seen.old ++ entered leaves_value (own_names (attribute.now ∷ [])))) }
 {
     if is_own(&attribute.name) {
         enter_name(seen, &attribute.name, leaves_value)

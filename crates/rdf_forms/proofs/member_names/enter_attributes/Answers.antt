@@ -1,11 +1,7 @@
 use Rattle.std.proofs.Common.{◌∙◌, ap, sym, subst}
-use Rattle.std.specs.Prelude.{filter}
 use Rattle.std.specs.List.{flat_map}
 use Rattle.std.proofs.lemmas.List.{take_all}
-use Rattle.xml_grammar.specs.declared.elements.Attribute.{Attribute}
-use Rattle.rdf_forms.specs.Words.{is_own}
-use Rattle.rdf_forms.specs.MemberRules.{attribute_names}
-use Rattle.rdf_forms.specs.Entering.{entered, clashes, IsEntered}
+use Rattle.rdf_forms.specs.Entering.{own_names, entered, clashes, IsEntered}
 use Rattle.rdf_forms.proofs.EnteredLists.{own_name, names-attributes, none_entered, walk_more, walk_clash}
 use Rattle.rdf_forms.proofs.member_names.enter_attributes.Goals as goal
 
@@ -23,7 +19,7 @@ returns-then-not-branch c =
     let items = c.as_slice-attribute-items.result.now in
     let found = walk_clash (own_name c.args.leaves_value) c.args.seen items c.loop-attribute.attribute-index c.attribute-item.result c.loop-attribute-test.true
     c.attribute-item.is c.loop-attribute.seen c.loop-attribute.invariant c.in_ok-enter_attribute.field-0 c.in_ok-enter_attribute.ensures.apart c.if-not-branch.true in
-    ap (λ cs. clashes (entered c.args.leaves_value (attribute_names (filter (λ (a : Attribute). is_own a.name) cs))) c.args.seen) (sym c.as_slice-attribute-items.ensures)
+    ap (λ cs. clashes (entered c.args.leaves_value (own_names cs)) c.args.seen) (sym c.as_slice-attribute-items.ensures)
     ∙ ap (λ ns. clashes ns c.args.seen) (sym (names-attributes c.args.leaves_value items)) ∙ found
 
 pub returns : goal.returns
@@ -32,5 +28,5 @@ returns c =
     let all = take_all c.loop-attribute.attribute-index items c.loop-attribute-test.false in
     subst (λ ns. IsEntered c.args.seen ns c.loop-attribute.seen)
     (ap (flat_map (own_name c.args.leaves_value)) all ∙ names-attributes c.args.leaves_value items
-    ∙ ap (λ cs. entered c.args.leaves_value (attribute_names (filter (λ (a : Attribute). is_own a.name) cs))) c.as_slice-attribute-items.ensures)
+    ∙ ap (λ cs. entered c.args.leaves_value (own_names cs)) c.as_slice-attribute-items.ensures)
     c.loop-attribute.invariant

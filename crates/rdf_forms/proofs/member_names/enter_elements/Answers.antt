@@ -1,8 +1,7 @@
-use Rattle.std.proofs.Common.{◌∙◌, ap, sym, subst, map}
+use Rattle.std.proofs.Common.{◌∙◌, ap, sym, subst}
 use Rattle.std.specs.List.{flat_map}
 use Rattle.std.proofs.lemmas.List.{take_all}
-use Rattle.rdf_forms.specs.Parts.{name_of, elements_in}
-use Rattle.rdf_forms.specs.Entering.{entered, clashes, IsEntered}
+use Rattle.rdf_forms.specs.Entering.{element_names, entered, clashes, IsEntered}
 use Rattle.rdf_forms.proofs.EnteredLists.{child_names, names-children, none_entered, walk_more, walk_clash}
 use Rattle.rdf_forms.proofs.member_names.enter_elements.Goals as goal
 
@@ -20,7 +19,7 @@ returns-then-not-branch c =
     let items = c.as_slice-child-items.result.now in
     let found = walk_clash (child_names c.args.leaves_value) c.args.seen items c.loop-child.child-index c.child-item.result c.loop-child-test.true
     c.child-item.is c.loop-child.seen c.loop-child.invariant c.in_ok-enter_child.field-0 c.in_ok-enter_child.ensures.apart c.if-not-branch.true in
-    ap (λ cs. clashes (entered c.args.leaves_value (map name_of (elements_in cs))) c.args.seen) (sym c.as_slice-child-items.ensures)
+    ap (λ cs. clashes (entered c.args.leaves_value (element_names cs)) c.args.seen) (sym c.as_slice-child-items.ensures)
     ∙ ap (λ ns. clashes ns c.args.seen) (sym (names-children c.args.leaves_value items)) ∙ found
 
 pub returns : goal.returns
@@ -29,5 +28,5 @@ returns c =
     let all = take_all c.loop-child.child-index items c.loop-child-test.false in
     subst (λ ns. IsEntered c.args.seen ns c.loop-child.seen)
     (ap (flat_map (child_names c.args.leaves_value)) all ∙ names-children c.args.leaves_value items
-    ∙ ap (λ cs. entered c.args.leaves_value (map name_of (elements_in cs))) c.as_slice-child-items.ensures)
+    ∙ ap (λ cs. entered c.args.leaves_value (element_names cs)) c.as_slice-child-items.ensures)
     c.loop-child.invariant
