@@ -1,1 +1,4 @@
 pub mod Kinds
+pub mod Faults
+pub mod Loading
+pub mod Loads

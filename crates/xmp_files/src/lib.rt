@@ -5,8 +5,18 @@
 //! devices of `xmp_base`.
 #![tactic(auto)]
 
+mod faults;
+mod held;
 #[cfg(test)]
 mod kind_tests;
 mod kinds;
+#[cfg(test)]
+mod load_tests;
+mod loading;
 
+pub use faults::{
+    FILE_LIMIT, PACKET_LIMIT, fault_at, no_file, not_built, not_known, over_limit, over_packet,
+};
+pub use held::Held;
 pub use kinds::{Kind, kind_of};
+pub use loading::{LoadStop, load};

@@ -1,0 +1,38 @@
+-- The refusals of a file, with their places and their numbers.
+use Rattle.std.specs.Prelude.{ℕ}
+use Rattle.xmp_values.specs.declared.faults.Fault.{Fault}
+use Rattle.xmp_values.specs.declared.faults.Part.{Part}
+use Rattle.xmp_values.specs.declared.faults.Part.TheVariants.{File, Main}
+use Rattle.xmp_values.specs.declared.rules.Rule.{Rule}
+use Rattle.xmp_values.specs.declared.rules.Rule.TheVariants.{NoFile, FileLimit, NotKnown, NotBuilt, XmpLimit}
+
+abbrev pub fault_at : Rule → Part → ℕ → Fault
+fault_at rule part at = record { rule = rule; place = record { part = part; at = at }; x = 0; y = 0 }
+
+-- FILE isn't there
+abbrev pub no_file : Fault
+no_file = fault_at NoFile File 0
+
+-- the most bytes of a file: 2 ^ 40
+abbrev pub file_limit : ℕ
+file_limit = 1099511627776
+
+-- FILE is longer than the limit
+abbrev pub over_limit : ℕ → Fault
+over_limit size = record { rule = FileLimit; place = record { part = File; at = 0 }; x = size; y = file_limit }
+
+-- FILE is of no kind
+abbrev pub not_known : Fault
+not_known = fault_at NotKnown File 0
+
+-- a form that isn't built yet
+abbrev pub not_built : Fault
+not_built = fault_at NotBuilt File 0
+
+-- the most bytes of a payload: 2 ^ 24
+abbrev pub packet_limit : ℕ
+packet_limit = 16777216
+
+-- the main payload is longer than the limit
+abbrev pub over_packet : ℕ → Fault
+over_packet size = record { rule = XmpLimit; place = record { part = Main; at = 0 }; x = size; y = packet_limit }

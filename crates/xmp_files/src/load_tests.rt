@@ -1,0 +1,108 @@
+//! Files that are loaded from devices, and those that are refused.
+use crate::{Held, LoadStop, load};
+use std::alloc::Global;
+use std::test::Fail;
+use xmp_base::{MemoryDesk, SparseDesk};
+use xmp_values::{Fault, Memory, Part, Place, Rule};
+
+/// Loads a file of these bytes from a desk that fails at a call, or at none.
+fn load_failing(
+    alloc: Global,
+    bytes: &[u8],
+    failing: u64,
+) -> Result<Result<Held, LoadStop>, Memory> {
+    let mut desk = MemoryDesk::new(alloc);
+    desk.add("a.xmp", bytes)?;
+    desk.cut(5);
+    desk.fail(failing)?;
+    Ok(load(alloc, &mut desk, "a.xmp"))
+}
+
+/// Why a file of these bytes isn't loaded.
+fn stop_of(alloc: Global, bytes: &[u8], failing: u64) -> Result<Option<LoadStop>, Memory> {
+    Ok(load_failing(alloc, bytes, failing)?.err())
+}
+
+/// Why a file of this length, which begins with these bytes and is zeros behind them, isn't loaded.
+fn stop_of_long(alloc: Global, front: &str, len: u64) -> Result<Option<LoadStop>, Memory> {
+    let mut desk = SparseDesk::new(alloc, "a.xmp", len)?;
+    desk.piece(0, front.as_bytes())?;
+    Ok(load(alloc, &mut desk, "a.xmp").err())
+}
+
+/// Whether a sidecar's payload is the file, and its text so many bytes of it.
+fn is_held(alloc: Global, file: &str, text_len: usize) -> Result<bool, Memory> {
+    match load_failing(alloc, file.as_bytes(), 0)? {
+        Ok(held) => Ok(held.payload() == file.as_bytes() && held.text().len() == text_len),
+        Err(_) => Ok(false),
+    }
+}
+
+fn refused(rule: Rule, part: Part, x: u64, y: u64) -> Option<LoadStop> {
+    Some(LoadStop::Fault(Fault {
+        rule,
+        place: Place { part, at: 0 },
+        x,
+        y,
+    }))
+}
+
+#[test]
+fn sidecars_are_loaded(rt: HostRuntime) -> Result<(), Fail> {
+    assert!(rt; is_held(rt.alloc(), "<", 1)?);
+    assert!(rt; is_held(rt.alloc(), "\u{FEFF} <a>of some length</a>\n", 26)?);
+    assert!(rt; is_held(rt.alloc(), "<a/>\0\n\0\0", 6)?);
+    Ok(())
+}
+
+#[test]
+fn files_are_refused(rt: HostRuntime) -> Result<(), Fail> {
+    let alloc = rt.alloc();
+    let not_known = refused(Rule::NotKnown, Part::File, 0, 0);
+    assert_eq!(rt; stop_of(alloc, b"", 0)?, not_known);
+    assert_eq!(rt;
+        stop_of(alloc, b"hello, this isn't XML <a/>", 0)?,
+        not_known
+    );
+    let not_built = refused(Rule::NotBuilt, Part::File, 0, 0);
+    assert_eq!(rt; stop_of(alloc, b"MM\x00\x2a", 0)?, not_built);
+    let mut desk = MemoryDesk::new(alloc);
+    assert_eq!(rt;
+        load(alloc, &mut desk, "a.xmp").err(),
+        Some(LoadStop::Absent)
+    );
+    Ok(())
+}
+
+#[test]
+fn long_files_are_refused(rt: HostRuntime) -> Result<(), Fail> {
+    let alloc = rt.alloc();
+    let limit = 1_099_511_627_776;
+    let over_limit = refused(Rule::FileLimit, Part::File, limit + 1, limit);
+    assert_eq!(rt; stop_of_long(alloc, "<", limit + 1)?, over_limit);
+    assert_eq!(rt;
+        stop_of_long(alloc, "", limit)?,
+        refused(Rule::NotKnown, Part::File, 0, 0)
+    );
+    let packet = 16_777_216;
+    let over_packet = refused(Rule::XmpLimit, Part::Main, packet + 1, packet);
+    assert_eq!(rt; stop_of_long(alloc, "<", packet + 1)?, over_packet);
+    assert_eq!(rt; stop_of_long(alloc, "<", packet)?, None);
+    Ok(())
+}
+
+#[test]
+fn failures_of_the_desk(rt: HostRuntime) -> Result<(), Fail> {
+    let alloc = rt.alloc();
+    // of 18 bytes, five at a time: one call of the length, four of the kind, four of the payload
+    let file = b"<a>of 18 bytes</a>";
+    for call in 1..10 {
+        assert_eq!(rt;
+            stop_of(alloc, file, call)?,
+            Some(LoadStop::Device),
+            "{call}"
+        );
+    }
+    assert_eq!(rt; stop_of(alloc, file, 10)?, None);
+    Ok(())
+}
