@@ -136,7 +136,7 @@ module _ (levels : ℕ) (enough : 60 ≤ levels) where
       by false is inside = absurd cc
   child_tree (r ∷ s ∷ rs) is sound h = absurd cc
 
-one_rdf : (root : Element) → no_rdf roles.Root root ≡ false → is_one_rdf (elements_of root) ≡ true
+pub one_rdf : (root : Element) → no_rdf roles.Root root ≡ false → is_one_rdf (elements_of root) ≡ true
 unfolding no_rdf
 one_rdf root h = not-false (is_one_rdf (elements_of root)) (or_parts (not (is_meta (name_of root))) (not (is_one_rdf (elements_of root))) h).1
 

@@ -1,1 +1,4 @@
+pub mod Answering
+pub mod Reading
+pub mod Gathering
 pub mod Meanings

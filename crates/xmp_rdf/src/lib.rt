@@ -6,10 +6,15 @@
 //! ISO 16684-1, 7.3 to 7.9; RDF/XML Syntax.
 #![tactic(auto)]
 
+mod abouts;
 mod hints;
 mod meanings;
 mod members;
+mod stops;
 mod texts;
+mod tops;
 mod values;
+mod walk;
 
 pub use meanings::{Meaning, Places};
+pub use stops::RdfStop;

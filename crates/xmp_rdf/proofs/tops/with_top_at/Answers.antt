@@ -1,0 +1,13 @@
+use Rattle.std.proofs.Common.{◌∙◌, ◌++◌, List, ap, sym, subst, append-nil}
+use Rattle.xml_grammar.specs.declared.elements.Element.{Element}
+use Rattle.xmp_rdf.specs.Reading.{read_tops}
+use Rattle.xmp_rdf.specs.Gathering.{about_in, IsBehind}
+use Rattle.xmp_rdf.proofs.TopReadings.{tops-none, top-text}
+use Rattle.xmp_rdf.proofs.tops.with_top_at.Goals as goal
+
+pub returns-in-Text : goal.returns-in-Text
+returns-in-Text c = λ earlier behind.
+    let none = top-text c.args.child.now c.in-Text.field-0 c.in-Text.is in (
+      ap (read_tops c.args.levels c.args.before.placed earlier) none ∙ tops-none c.args.levels c.args.before.placed earlier,
+      subst (λ (ts : List Element). IsBehind ts (about_in c.args.before.first) c.args.before.names) (sym (ap (λ (ts : List Element). earlier ++ ts) none ∙ append-nil earlier)) behind,
+    )

@@ -1,0 +1,242 @@
+//! The walk through properties and items: their values, or the first rule that one breaks.
+ghost use Rattle.std.specs.Prelude.{◌≡◌, ◌<◌, ◌≤◌, ◌+◌, ◌^◌, ◌∷◌, [], IfOk};
+ghost use Rattle.xml_grammar.specs.declared.elements.Element.{out-Element};
+ghost use Rattle.rdf_forms.specs.Parts.{elements_in, own_text};
+ghost use Rattle.rdf_forms.specs.Forms.{ByMembers, ByContainer, ByNode, form_of};
+ghost use Rattle.rdf_forms.specs.Visits.{member_depth};
+ghost use Rattle.rdf_forms.specs.Values.{plain, lang_of};
+ghost use Rattle.xmp_tree.specs.Parts.{value};
+ghost use Rattle.xmp_tree.specs.declared.nested.Shape.{Simple};
+ghost use Rattle.xmp_rdf.specs.Answering.{Gives};
+ghost use Rattle.xmp_rdf.specs.Reading.{checked, read_within, read_form, read_members, read_items};
+
+use crate::members::{lang_of, node_members, plain, type_of};
+use crate::stops::RdfStop;
+use crate::texts::{name_again, own_text};
+use crate::values::{by_attributes, by_members, kind_of};
+use rdf_forms::{Form, Holder, Role, broken, form_of, is_rdf, members_holder, node_holder};
+use std::alloc::Global;
+use xml_grammar::{Child, Element};
+use xmp_tree::{Items, Member, Members, Shape, Value};
+use xmp_values::{Memory, Text};
+
+/// Ok where an element breaks no rule in its role.
+#[tactic(auto, unfolding(crate::specs::Reading::checked, rdf_forms::specs::Rules::broken))]
+pub fn check(alloc: Global, role: Role, depth: u64, element: &Element<'_>) -> Result<(), RdfStop>
+    ensures { Gives result (checked role depth element.now) }
+{
+    match broken(alloc, role, depth, element)? {
+        Some(rule) => Err(RdfStop::Fault(rule, element.at())),
+        None => Ok(()),
+    }
+}
+
+/// The depth of a member of what is at a depth.
+#[tactic(auto, unfolding(rdf_forms::specs::Visits::member_depth))]
+pub fn member_depth(depth: u64, element: &Element<'_>) -> u64
+    requires { depth + 1 < 2 ^ 64 }
+    ensures depth { result ≡ member_depth depth element.now }
+    ensures within { result ≤ depth + 1 }
+{
+    if is_rdf(b"value".as_slice(), &element.name) {
+        depth
+    } else {
+        depth + 1
+    }
+}
+
+/// The empty text, without qualifiers.
+fn no_value<'p>(alloc: Global) -> Value<'p>
+    ensures { result ≡ plain [] }
+{
+    plain(alloc, Text::raw(b"".as_slice()))
+}
+
+/// The value by an element's own text.
+fn text_value<'p>(alloc: Global, element: &Element<'p>) -> Result<Value<'p>, Memory>
+    ensures { IfOk result (λ v. v ≡ value (Simple (own_text element.now)) (lang_of element.now)) }
+{
+    Ok(Value {
+        shape: Shape::Simple(own_text(alloc, element)?),
+        quals: lang_of(alloc, element)?,
+    })
+}
+
+/// The value of a property or item with fewer levels of elements inside it than `levels`.
+#[cycle(walk)]
+pub fn property<'p>(
+    alloc: Global,
+    levels: u64,
+    role: Role,
+    depth: u64,
+    element: &Element<'p>,
+) -> Result<Value<'p>, RdfStop>
+    requires { depth + levels < 2 ^ 64 }
+    ensures { Gives result (read_within levels role depth element.now) }
+{
+    if levels == 0 {
+        return Ok(no_value(alloc));
+    }
+    check(alloc, role, depth, element)?;
+    form_value(alloc, levels - 1, depth, element)
+}
+
+#[cycle(walk)]
+#[tactic(auto, unfolding(crate::specs::Reading::read_form))]
+fn form_value<'p>(
+    alloc: Global,
+    levels: u64,
+    depth: u64,
+    element: &Element<'p>,
+) -> Result<Value<'p>, RdfStop>
+    requires { depth + 1 + levels < 2 ^ 64 }
+    ensures { Gives result (read_form levels depth element.now (form_of element.now)) }
+{
+    match form_of(element) {
+        Form::ByMembers => resource_value(alloc, levels, depth, element),
+        Form::ByContainer(container) => container_value(alloc, levels, depth, element, container),
+        Form::ByNode(node) => node_value(alloc, levels, depth, element, node),
+        Form::ByAttributes => Ok(by_attributes(alloc, element)?),
+        Form::ByText => Ok(text_value(alloc, element)?),
+        Form::NoForm => Ok(no_value(alloc)),
+    }
+}
+
+#[cycle(walk)]
+fn resource_value<'p>(
+    alloc: Global,
+    levels: u64,
+    depth: u64,
+    element: &Element<'p>,
+) -> Result<Value<'p>, RdfStop>
+    requires { depth + 1 + levels < 2 ^ 64 }
+    ensures { Gives result (read_form levels depth element.now ByMembers) }
+{
+    let holder = members_holder(element);
+    let none = Members::new(alloc);
+    let children = element.children.as_slice();
+    let members = members_of(alloc, levels, holder, depth, none, children)?;
+    let lang = lang_of(alloc, element)?;
+    Ok(by_members(lang, Members::new(alloc), members)?)
+}
+
+#[cycle(walk)]
+fn node_value<'p>(
+    alloc: Global,
+    levels: u64,
+    depth: u64,
+    element: &Element<'p>,
+    node: &Element<'p>,
+) -> Result<Value<'p>, RdfStop>
+    requires { depth + 1 + levels < 2 ^ 64 }
+    ensures { Gives result (read_form levels depth element.now (ByNode node.now)) }
+{
+    check(alloc, Role::Node, depth, node)?;
+    let holder = node_holder(node);
+    let attributes = node_members(alloc, node)?;
+    let children = node.children.as_slice();
+    let members = members_of(alloc, levels, holder, depth, attributes, children)?;
+    let lang = lang_of(alloc, element)?;
+    let types = type_of(alloc, &node.name)?;
+    Ok(by_members(lang, types, members)?)
+}
+
+#[cycle(walk)]
+fn container_value<'p>(
+    alloc: Global,
+    levels: u64,
+    depth: u64,
+    element: &Element<'p>,
+    container: &Element<'p>,
+) -> Result<Value<'p>, RdfStop>
+    requires { depth + 1 + levels < 2 ^ 64 }
+    ensures { Gives result (read_form levels depth element.now (ByContainer container.now)) }
+{
+    check(alloc, Role::Container, depth, container)?;
+    let items = items_of(alloc, levels, depth, container.children.as_slice())?;
+    Ok(Value {
+        shape: Shape::Array(kind_of(&container.name), items),
+        quals: lang_of(alloc, element)?,
+    })
+}
+
+/// The members inside an element, behind those before them.
+#[cycle(walk)]
+fn members_of<'p>(
+    alloc: Global,
+    levels: u64,
+    holder: Holder,
+    depth: u64,
+    before: Members<'p>,
+    children: &[Child<'p>],
+) -> Result<Members<'p>, RdfStop>
+    requires { depth + 1 + levels < 2 ^ 64 }
+    ensures { Gives result (read_members levels holder depth before.entry (elements_in children.now)) }
+{
+    let mut members = before;
+    for child in children {
+        members = with_member(alloc, levels, holder, depth, members, child)?;
+    }
+    Ok(members)
+}
+
+#[cycle(walk)]
+fn with_member<'p>(
+    alloc: Global,
+    levels: u64,
+    holder: Holder,
+    depth: u64,
+    before: Members<'p>,
+    child: &Child<'p>,
+) -> Result<Members<'p>, RdfStop>
+    requires { depth + 1 + levels < 2 ^ 64 }
+    ensures { Gives result (read_members levels holder depth before.entry (elements_in (child.now ∷ []))) }
+{
+    let Child::Element(element) = child else {
+        return Ok(before);
+    };
+    let role = Role::Property(holder);
+    let value = property(alloc, levels, role, member_depth(depth, element), element)?;
+    let name = name_again(alloc, &element.name)?;
+    let mut members = before;
+    members.push(Member { name, value })?;
+    Ok(members)
+}
+
+/// The items inside a container.
+#[cycle(walk)]
+fn items_of<'p>(
+    alloc: Global,
+    levels: u64,
+    depth: u64,
+    children: &[Child<'p>],
+) -> Result<Items<'p>, RdfStop>
+    requires { depth + 1 + levels < 2 ^ 64 }
+    ensures { Gives result (read_items levels depth [] (elements_in children.now)) }
+{
+    let mut items = Items::new(alloc);
+    for child in children {
+        items = with_item(alloc, levels, depth, items, child)?;
+    }
+    Ok(items)
+}
+
+#[cycle(walk)]
+fn with_item<'p>(
+    alloc: Global,
+    levels: u64,
+    depth: u64,
+    before: Items<'p>,
+    child: &Child<'p>,
+) -> Result<Items<'p>, RdfStop>
+    requires { depth + 1 + levels < 2 ^ 64 }
+    ensures { Gives result (read_items levels depth before.entry (elements_in (child.now ∷ []))) }
+{
+    let Child::Element(element) = child else {
+        return Ok(before);
+    };
+    let value = property(alloc, levels, Role::Item, depth + 1, element)?;
+    let mut items = before;
+    items.push(value)?;
+    Ok(items)
+}
