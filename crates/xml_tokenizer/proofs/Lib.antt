@@ -19,5 +19,5 @@ pub mod FaultLaws
 pub mod Found
 pub mod Sure
 pub mod AsciiBytes
-pub mod Literals
+pub mod RunEnds
 pub mod PlainLaws

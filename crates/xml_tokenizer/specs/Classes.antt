@@ -34,6 +34,10 @@ is_wide Char = true
 is_wide Plain = true
 is_wide (Value quote) = nat_lt quote 128
 
+-- a byte that, wherever it stands in UTF-8, is of a character that stands for itself in a value, unless it is the quote
+unfoldable pub is_value_byte : ℕ → Bool
+is_value_byte b = if nat_lt b 128 then (is_char b && not (b == 60 || b == 38 || b == 9 || b == 10 || b == 13)) else not (b == 0xEF)
+
 -- A byte that, wherever it stands in UTF-8, is of a character of the class. EF begins U+FFFE and U+FFFF, which are no Chars.
 unfoldable pub is_sure : Class → ℕ → Bool
 is_sure class b = if nat_lt b 128 then has class b else (is_wide class && not (b == 0xEF))

@@ -2,7 +2,7 @@
 
 ghost use Rattle.std.specs.Prelude.{◌≡◌};
 ghost use Rattle.xml_tokenizer.specs.declared.classes.Class.TheVariants.{Char};
-ghost use Rattle.xml_tokenizer.specs.Classes.{has, is_plain, is_value, is_sure, is_wide};
+ghost use Rattle.xml_tokenizer.specs.Classes.{has, is_plain, is_value, is_value_byte, is_sure, is_wide};
 
 use xmp_values::{is_blank, is_char, is_name_char};
 
@@ -39,6 +39,14 @@ pub fn is_char_byte(byte: u8) -> bool
     ensures { result ≡ is_sure Char byte }
 {
     (byte >= 0x20 && byte != 0xEF) || matches!(byte, b'\t' | b'\n' | b'\r')
+}
+
+/// Whether a byte that isn't the quote is, wherever it stands in UTF-8, of a character that stands for itself in a value.
+#[tactic(auto, unfolding(crate::specs::Classes::is_value_byte, xmp_values::specs::Characters::is_char))]
+pub fn is_value_byte(byte: u8) -> bool
+    ensures { result ≡ is_value_byte byte }
+{
+    byte >= 0x20 && byte != 0xEF && byte != b'<' && byte != b'&'
 }
 
 pub fn has(class: Class, c: char) -> bool

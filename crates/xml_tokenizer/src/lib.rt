@@ -12,6 +12,7 @@ mod lines;
 mod names;
 mod references;
 mod runs;
+mod searches;
 mod sections;
 mod stops;
 mod tags;

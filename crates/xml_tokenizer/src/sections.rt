@@ -7,7 +7,8 @@ ghost use Rattle.xml_tokenizer.specs.Steps.{Gives};
 
 use crate::lines::lines_of;
 use crate::names::name_of;
-use crate::runs::{after, behind, next_char, up_to};
+use crate::runs::{after, behind, next_char};
+use crate::searches::up_to;
 use crate::stops::Miss;
 use std::alloc::Global;
 use xmp_values::{Text, is_blank};

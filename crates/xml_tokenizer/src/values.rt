@@ -10,6 +10,7 @@ ghost use Rattle.xml_tokenizer.specs.Values.{equals_at, quote_at, past_feed, spe
 use crate::classes::Class;
 use crate::references::reference_of;
 use crate::runs::{after, behind_char, next_char, past_run, run, width_of};
+use crate::searches::value_text;
 use crate::stops::Miss;
 use std::alloc::Global;
 use xmp_values::{Bytes, Text};
@@ -86,7 +87,7 @@ fn tail_of<'p>(
 pub fn value_of(alloc: Global, quote: char, text: &str) -> Result<(Text<'_>, &str), Miss>
     ensures { Gives (λ x. (x.0, chars x.1.now)) result (value_at quote (chars text.now)) }
 {
-    let (plain, rest) = run(Class::Value(quote), text);
+    let (plain, rest) = value_text(quote, text);
     if let Some(behind) = behind_char(quote, rest) {
         return Ok((Text::raw(plain.as_bytes()), behind));
     }

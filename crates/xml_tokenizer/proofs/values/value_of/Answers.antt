@@ -6,7 +6,7 @@ use Rattle.xml_tokenizer.proofs.values.value_of.Goals as goal
 
 pub returns-in-Some : goal.returns-in-Some
 returns-in-Some c =
-    let e = c.raw.ensures ∙ c.as_bytes.ensures.value ∙ c.run.ensures.front in
-    let h : chars c.run.result.1.now ≡ _ = c.run.ensures.rest in
+    let e = c.raw.ensures ∙ c.as_bytes.ensures.value ∙ c.value_text.ensures.front in
+    let h : chars c.value_text.result.1.now ≡ _ = c.value_text.ensures.rest in
     let k = value_plain c.args.quote (chars c.args.text.now) (chars c.in-Some.behind.now) (subst (λ (x : List ℕ). after (c.args.quote ∷ []) x ≡ Some (chars c.in-Some.behind.now)) h c.in-Some.ensures) in
     k ∙ ap (λ (x : List ℕ). Some (x, chars c.in-Some.behind.now)) (sym e)

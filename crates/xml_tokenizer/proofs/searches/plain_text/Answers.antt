@@ -5,9 +5,9 @@ use Rattle.std.specs.Str.{chars, IsUtf8}
 use Rattle.std.proofs.lemmas.Str.{encodes-chars}
 use Rattle.xml_tokenizer.specs.declared.classes.Class.TheVariants.{Char}
 use Rattle.xml_tokenizer.specs.Classes.{is_sure}
-use Rattle.xml_tokenizer.proofs.Literals.{plain_before}
+use Rattle.xml_tokenizer.proofs.RunEnds.{plain_before}
 use Rattle.xml_tokenizer.proofs.Sure.{all_sure}
-use Rattle.xml_tokenizer.proofs.runs.plain_text.Goals as goal
+use Rattle.xml_tokenizer.proofs.searches.plain_text.Goals as goal
 
 pub returns-then-are_char_bytes-clause-front : goal.returns-then-are_char_bytes-clause-front
 returns-then-are_char_bytes-clause-front c =

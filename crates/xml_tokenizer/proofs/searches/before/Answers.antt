@@ -1,7 +1,7 @@
 use Rattle.std.proofs.Common.{◌∙◌, sym, subst}
 use Rattle.memchr.specs.Find.{FindsNeedle}
 use Rattle.xml_tokenizer.proofs.Found.{finds_same, occurs_boundary, cut_of, cut_stands, sought_nowhere, sought_stuck, sought_found}
-use Rattle.xml_tokenizer.proofs.runs.before.Goals as goal
+use Rattle.xml_tokenizer.proofs.searches.before.Goals as goal
 
 pub returns-in_default : goal.returns-in_default
 returns-in_default c =

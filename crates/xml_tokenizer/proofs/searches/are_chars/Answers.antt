@@ -6,7 +6,7 @@ use Rattle.xml_tokenizer.specs.declared.classes.Class.TheVariants.{Char}
 use Rattle.xml_tokenizer.specs.Classes.{is_sure}
 use Rattle.xml_tokenizer.proofs.Found.{all_where_none_left}
 use Rattle.xml_tokenizer.proofs.Sure.{all_sure}
-use Rattle.xml_tokenizer.proofs.runs.are_chars.Goals as goal
+use Rattle.xml_tokenizer.proofs.searches.are_chars.Goals as goal
 
 pub returns-then-are_char_bytes : goal.returns-then-are_char_bytes
 returns-then-are_char_bytes c = c.if-are_char_bytes.true ∙ sym (all_sure Char c.args.text.now c.utf8.text (ap (list_all (is_sure Char)) (sym c.as_bytes.ensures.value) ∙ sym c.are_char_bytes.ensures ∙ c.if-are_char_bytes.true))
