@@ -70,18 +70,18 @@ module _ {X : Type 0} (f : X → List Name) (those : List Name) (xs : List X) (i
       ap (λ ns. clashes ns those) all
       ∙ clash_before those (flat_map f (take (i + 1) xs)) (flat_map f (drop (i + 1) xs)) (ap (λ ns. clashes ns those) names_more ∙ now)
 
-pub entered-append : (leaves : Bool) (ns ms : List Name) → entered leaves (ns ++ ms) ≡ entered leaves ns ++ entered leaves ms
+pub entered-append : (without : Bool) (ns ms : List Name) → entered without (ns ++ ms) ≡ entered without ns ++ entered without ms
 entered-append true ns ms = filter-append (λ n. not (is_rdf (codes "value") n)) ns ms
 entered-append false ns ms = refl
 
 -- the names that a child, or an attribute, gives
 abbrev pub child_names : Bool → Child → List Name
-child_names leaves c = entered leaves (element_names (c ∷ []))
+child_names without c = entered without (element_names (c ∷ []))
 
 abbrev pub own_name : Bool → Attribute → List Name
-own_name leaves a = entered leaves (own_names (a ∷ []))
+own_name without a = entered without (own_names (a ∷ []))
 
-nothing_entered : (leaves : Bool) → [] ≡ entered leaves []
+nothing_entered : (without : Bool) → [] ≡ entered without []
 nothing_entered true = refl
 nothing_entered false = refl
 
@@ -89,24 +89,24 @@ elements_split : (o : Option Element) (es : List Element) → cons_option o es �
 elements_split None es = refl
 elements_split (Some e) es = refl
 
-pub names-children : (leaves : Bool) (cs : List Child) → flat_map (child_names leaves) cs ≡ entered leaves (element_names cs)
-names-children leaves [] = nothing_entered leaves
-names-children leaves (c ∷ cs) =
+pub names-children : (without : Bool) (cs : List Child) → flat_map (child_names without) cs ≡ entered without (element_names cs)
+names-children without [] = nothing_entered without
+names-children without (c ∷ cs) =
     let one = elements_in (c ∷ []) in
-    ap (λ ns. child_names leaves c ++ ns) (names-children leaves cs)
-    ∙ sym (entered-append leaves (map name_of one) (map name_of (elements_in cs)))
-    ∙ ap (entered leaves) (sym (map-append name_of one (elements_in cs)))
-    ∙ ap (λ es. entered leaves (map name_of es)) (sym (elements_split (element_at c) (elements_in cs)))
+    ap (λ ns. child_names without c ++ ns) (names-children without cs)
+    ∙ sym (entered-append without (map name_of one) (map name_of (elements_in cs)))
+    ∙ ap (entered without) (sym (map-append name_of one (elements_in cs)))
+    ∙ ap (λ es. entered without (map name_of es)) (sym (elements_split (element_at c) (elements_in cs)))
 
-pub names-attributes : (leaves : Bool) (xs : List Attribute) → flat_map (own_name leaves) xs ≡ entered leaves (own_names xs)
-names-attributes leaves [] = nothing_entered leaves
-names-attributes leaves (a ∷ xs) =
+pub names-attributes : (without : Bool) (xs : List Attribute) → flat_map (own_name without) xs ≡ entered without (own_names xs)
+names-attributes without [] = nothing_entered without
+names-attributes without (a ∷ xs) =
     let own = λ (b : Attribute). is_own b.name in
     let name = λ (b : Attribute). b.name in
-    ap (λ ns. own_name leaves a ++ ns) (names-attributes leaves xs)
-    ∙ sym (entered-append leaves (attribute_names (filter own (a ∷ []))) (attribute_names (filter own xs)))
-    ∙ ap (entered leaves) (sym (map-append name (filter own (a ∷ [])) (filter own xs)))
-    ∙ ap (λ bs. entered leaves (attribute_names bs)) (sym (filter-append own (a ∷ []) xs))
+    ap (λ ns. own_name without a ++ ns) (names-attributes without xs)
+    ∙ sym (entered-append without (attribute_names (filter own (a ∷ []))) (attribute_names (filter own xs)))
+    ∙ ap (entered without) (sym (map-append name (filter own (a ∷ [])) (filter own xs)))
+    ∙ ap (λ bs. entered without (attribute_names bs)) (sym (filter-append own (a ∷ []) xs))
 
 common_none : (ns : List Name) → has_common ns [] ≡ false
 common_none [] = refl

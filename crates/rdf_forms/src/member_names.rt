@@ -10,22 +10,22 @@ use crate::words::{is_own, is_rdf};
 use xml_grammar::{Attribute, Child, Element};
 use xmp_values::{Memory, Name, NameSet};
 
-fn is_left_out(leaves_value: bool, name: &Name<'_>) -> bool
-    ensures { result ≡ (leaves_value && is_rdf (codes "value") name.now) }
+fn is_left_out(without_value: bool, name: &Name<'_>) -> bool
+    ensures { result ≡ (without_value && is_rdf (codes "value") name.now) }
 {
-    leaves_value && is_rdf(b"value".as_slice(), name)
+    without_value && is_rdf(b"value".as_slice(), name)
 }
 
 /// Enters a name, unless it is `rdf:value` and that is left out; tells whether none stood there.
 fn enter_name<'e>(
     seen: &mut NameSet<'e>,
     name: &'e Name<'_>,
-    leaves_value: bool,
+    without_value: bool,
 ) -> Result<bool, Memory>
-    ensures apart { IfOk result (λ apart. apart ≡ not (clashes (entered leaves_value (name.now ∷ [])) seen.old)) }
-    ensures holds { OnOk result (Holds seen.new (seen.old ++ entered leaves_value (name.now ∷ []))) }
+    ensures apart { IfOk result (λ apart. apart ≡ not (clashes (entered without_value (name.now ∷ [])) seen.old)) }
+    ensures holds { OnOk result (Holds seen.new (seen.old ++ entered without_value (name.now ∷ []))) }
 {
-    if is_left_out(leaves_value, name) {
+    if is_left_out(without_value, name) {
         return Ok(true);
     }
     let is_new = seen.insert(name.space.bytes(), name.local.bytes())?;
@@ -36,13 +36,13 @@ fn enter_name<'e>(
 fn enter_child<'e>(
     seen: &mut NameSet<'e>,
     child: &'e Child<'_>,
-    leaves_value: bool,
+    without_value: bool,
 ) -> Result<bool, Memory>
-    ensures apart { IfOk result (λ apart. apart ≡ not (clashes (entered leaves_value (element_names (child.now ∷ []))) seen.old)) }
-    ensures holds { OnOk result (Holds seen.new (seen.old ++ entered leaves_value (element_names (child.now ∷ [])))) }
+    ensures apart { IfOk result (λ apart. apart ≡ not (clashes (entered without_value (element_names (child.now ∷ []))) seen.old)) }
+    ensures holds { OnOk result (Holds seen.new (seen.old ++ entered without_value (element_names (child.now ∷ [])))) }
 {
     match as_element(child) {
-        Some(element) => enter_name(seen, &element.name, leaves_value),
+        Some(element) => enter_name(seen, &element.name, without_value),
         None => Ok(true),
     }
 }
@@ -51,13 +51,13 @@ fn enter_child<'e>(
 fn enter_attribute<'e>(
     seen: &mut NameSet<'e>,
     attribute: &'e Attribute<'_>,
-    leaves_value: bool,
+    without_value: bool,
 ) -> Result<bool, Memory>
-    ensures apart { IfOk result (λ apart. apart ≡ not (clashes (entered leaves_value (own_names (attribute.now ∷ []))) seen.old)) }
-    ensures holds { OnOk result (Holds seen.new (seen.old ++ entered leaves_value (own_names (attribute.now ∷ [])))) }
+    ensures apart { IfOk result (λ apart. apart ≡ not (clashes (entered without_value (own_names (attribute.now ∷ []))) seen.old)) }
+    ensures holds { OnOk result (Holds seen.new (seen.old ++ entered without_value (own_names (attribute.now ∷ [])))) }
 {
     if is_own(&attribute.name) {
-        enter_name(seen, &attribute.name, leaves_value)
+        enter_name(seen, &attribute.name, without_value)
     } else {
         Ok(true)
     }
@@ -67,12 +67,12 @@ fn enter_attribute<'e>(
 pub fn enter_elements<'e>(
     mut seen: NameSet<'e>,
     element: &'e Element<'_>,
-    leaves_value: bool,
+    without_value: bool,
 ) -> Result<Option<NameSet<'e>>, Memory>
-    ensures { IfOk result (Enters seen.entry (entered leaves_value (map name_of (elements_of element.now)))) }
+    ensures { IfOk result (Enters seen.entry (entered without_value (map name_of (elements_of element.now)))) }
 {
     for child in element.children.as_slice() {
-        if !enter_child(&mut seen, child, leaves_value)? {
+        if !enter_child(&mut seen, child, without_value)? {
             return Ok(None);
         }
     }
@@ -83,12 +83,12 @@ pub fn enter_elements<'e>(
 fn enter_attributes<'e>(
     mut seen: NameSet<'e>,
     element: &'e Element<'_>,
-    leaves_value: bool,
+    without_value: bool,
 ) -> Result<Option<NameSet<'e>>, Memory>
-    ensures { IfOk result (Enters seen.entry (entered leaves_value (attribute_names (own_attributes element.now)))) }
+    ensures { IfOk result (Enters seen.entry (entered without_value (attribute_names (own_attributes element.now)))) }
 {
     for attribute in element.attributes.as_slice() {
-        if !enter_attribute(&mut seen, attribute, leaves_value)? {
+        if !enter_attribute(&mut seen, attribute, without_value)? {
             return Ok(None);
         }
     }
@@ -99,12 +99,12 @@ fn enter_attributes<'e>(
 pub fn enter_members<'e>(
     seen: NameSet<'e>,
     element: &'e Element<'_>,
-    leaves_value: bool,
+    without_value: bool,
 ) -> Result<Option<NameSet<'e>>, Memory>
-    ensures { IfOk result (Enters seen.entry (entered leaves_value (member_names element.now))) }
+    ensures { IfOk result (Enters seen.entry (entered without_value (member_names element.now))) }
 {
-    match enter_attributes(seen, element, leaves_value)? {
-        Some(more) => enter_elements(more, element, leaves_value),
+    match enter_attributes(seen, element, without_value)? {
+        Some(more) => enter_elements(more, element, without_value),
         None => Ok(None),
     }
 }

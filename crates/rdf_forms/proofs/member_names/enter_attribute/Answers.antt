@@ -9,5 +9,5 @@ pub returns-then-is_own-clause-holds : goal.returns-then-is_own-clause-holds
 returns-then-is_own-clause-holds c =
     let a = c.args.attribute.now in
     let own : true ≡ is_own a.name = cc in
-    subst (λ b. OnOk c.enter_name.result (Holds c.enter_name.new.seen (c.args.seen.now ++ entered c.args.leaves_value (attribute_names (cond b (a ∷ []) [])))))
+    subst (λ b. OnOk c.enter_name.result (Holds c.enter_name.new.seen (c.args.seen.now ++ entered c.args.without_value (attribute_names (cond b (a ∷ []) [])))))
     own c.enter_name.ensures.holds

@@ -5,4 +5,4 @@ use Rattle.rdf_forms.proofs.EnteredLists.{own_name}
 use Rattle.rdf_forms.proofs.member_names.enter_attributes.Given as goal
 
 abbrev pub invariant-loop-attribute : goal.invariant-loop-attribute
-invariant-loop-attribute l = IsEntered l.initial.seen (flat_map (own_name l.leaves_value) (take l.attribute-index l.attribute-items)) l.seen
+invariant-loop-attribute l = IsEntered l.initial.seen (flat_map (own_name l.without_value) (take l.attribute-index l.attribute-items)) l.seen

@@ -5,4 +5,4 @@ use Rattle.rdf_forms.proofs.EnteredLists.{child_names}
 use Rattle.rdf_forms.proofs.member_names.enter_elements.Given as goal
 
 abbrev pub invariant-loop-child : goal.invariant-loop-child
-invariant-loop-child l = IsEntered l.initial.seen (flat_map (child_names l.leaves_value) (take l.child-index l.child-items)) l.seen
+invariant-loop-child l = IsEntered l.initial.seen (flat_map (child_names l.without_value) (take l.child-index l.child-items)) l.seen

@@ -10,21 +10,21 @@ use Rattle.rdf_forms.proofs.member_names.enter_members.Goals as goal
 pub returns-in-Some : goal.returns-in-Some
 unfolding member_names
 returns-in-Some c =
-    let leaves = c.args.leaves_value in
+    let without = c.args.without_value in
     let attributes = attribute_names (own_attributes c.args.element.now) in
     let elements = map name_of (elements_of c.args.element.now) in
-    let so_far : IsEntered c.args.seen (entered leaves attributes) c.in-Some.more = subst (Enters c.args.seen (entered leaves attributes)) c.in-Some.is c.in_ok-more.ensures in
-    IfOk-weaker c.enter_elements.result (Enters c.in-Some.more (entered leaves elements)) (Enters c.args.seen (entered leaves (member_names c.args.element.now)))
+    let so_far : IsEntered c.args.seen (entered without attributes) c.in-Some.more = subst (Enters c.args.seen (entered without attributes)) c.in-Some.is c.in_ok-more.ensures in
+    IfOk-weaker c.enter_elements.result (Enters c.in-Some.more (entered without elements)) (Enters c.args.seen (entered without (member_names c.args.element.now)))
     (λ (set : Option (List Name)) entering.
-    subst (λ ns. Enters c.args.seen ns set) (sym (entered-append leaves attributes elements))
-    (enters_more c.args.seen (entered leaves attributes) c.in-Some.more (entered leaves elements) so_far set entering))
+    subst (λ ns. Enters c.args.seen ns set) (sym (entered-append without attributes elements))
+    (enters_more c.args.seen (entered without attributes) c.in-Some.more (entered without elements) so_far set entering))
     c.enter_elements.ensures
 
 pub returns-in-None : goal.returns-in-None
 unfolding member_names
 returns-in-None c =
-    let leaves = c.args.leaves_value in
+    let without = c.args.without_value in
     let attributes = attribute_names (own_attributes c.args.element.now) in
     let elements = map name_of (elements_of c.args.element.now) in
-    ap (λ ns. clashes ns c.args.seen) (entered-append leaves attributes elements)
-    ∙ clash_before c.args.seen (entered leaves attributes) (entered leaves elements) (subst (Enters c.args.seen (entered leaves attributes)) c.in-None.is c.in_ok-more.ensures)
+    ap (λ ns. clashes ns c.args.seen) (entered-append without attributes elements)
+    ∙ clash_before c.args.seen (entered without attributes) (entered without elements) (subst (Enters c.args.seen (entered without attributes)) c.in-None.is c.in_ok-more.ensures)
