@@ -1,2 +1,3 @@
 pub mod NameTests
 pub mod HintScans
+pub mod TestHints

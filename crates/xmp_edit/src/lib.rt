@@ -10,6 +10,8 @@ mod finding;
 mod names;
 mod path;
 mod stops;
+#[cfg(test)]
+mod tests;
 
 pub use finding::find;
 pub use path::Path;
