@@ -22,11 +22,11 @@ no_more false = refl
 clashes-one : (n : Name) (names : List Name) → clashes (n ∷ []) names ≡ stands n names
 clashes-one n names = clashes-cons n [] names ∙ no_more (stands n names)
 
-is_new : (b : Bool) (n : Name) (names : List Name) → MatchBool b (Contains names n → ⊥) (Contains names n) → b ≡ not (stands n names)
+pub is_new : (b : Bool) (n : Name) (names : List Name) → MatchBool b (Contains names n → ⊥) (Contains names n) → b ≡ not (stands n names)
 is_new true n names new = sym (ap not (false_from_ne_true (stands n names) (λ e. new ((stands_is n names).0 e))))
 is_new false n names there = sym (ap not ((stands_is n names).1 there))
 
-holds_more : (n : Name) (names more : List Name) → ((m : Name) → Contains more m ↔ (Contains names m ⊎ (m ≡ n))) → Holds more (names ++ n ∷ [])
+pub holds_more : (n : Name) (names more : List Name) → ((m : Name) → Contains more m ↔ (Contains names m ⊎ (m ≡ n))) → Holds more (names ++ n ∷ [])
 holds_more n names more adds m = (
   λ h. ⊎_elim (Contains-append_left names (n ∷ []) m) (λ e. subst (Contains (names ++ n ∷ [])) (sym e) (Contains-push names n)) ((adds m).0 h),
   λ h. (adds m).1 (⊎_elim inl (λ e. inr (sym e)) (Contains-push_cases names n m h)),

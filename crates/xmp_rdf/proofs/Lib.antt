@@ -5,3 +5,5 @@ pub mod Faults
 pub mod Readings
 pub mod TopReadings
 pub mod RootReadings
+pub mod HintSets
+pub mod Twice

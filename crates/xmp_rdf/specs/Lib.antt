@@ -2,3 +2,5 @@ pub mod Answering
 pub mod Reading
 pub mod Gathering
 pub mod Meanings
+pub mod Merging
+pub mod SpaceSets

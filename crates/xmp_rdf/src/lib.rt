@@ -10,6 +10,8 @@ mod abouts;
 mod hints;
 mod meanings;
 mod members;
+mod merging;
+mod owning;
 mod stops;
 mod texts;
 mod tops;
@@ -17,4 +19,6 @@ mod values;
 mod walk;
 
 pub use meanings::{Meaning, Places};
+pub use merging::{MergeStop, merge};
+pub use owning::own;
 pub use stops::RdfStop;
