@@ -7,8 +7,8 @@ ghost use Rattle.xmp_write.specs.Texts.{texts_of};
 ghost use Rattle.xmp_write.specs.Giving.{HasGiven, IsGiven};
 
 use crate::hinted::Hinted;
-use crate::known::{begins_xml, is_known, known_prefix};
 use itoa::Buffer;
+use known_prefixes::{begins_xml, is_known, known_prefix};
 use std::alloc::Global;
 use std::collections::BTreeSet;
 use xmp_values::{Bytes, Hint, Memory, Sequence};

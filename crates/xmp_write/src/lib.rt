@@ -8,7 +8,6 @@
 mod forms;
 mod giving;
 mod hinted;
-mod known;
 mod listing;
 mod packets;
 mod prefixes;

@@ -5,7 +5,7 @@ ghost use Rattle.xmp_write.specs.Written.{value_spaces, shape_spaces, member_spa
 ghost use Rattle.xmp_write.specs.Prefixes.{with_use, declared_spaces};
 
 use crate::forms::Form;
-use crate::known::is_fixed;
+use known_prefixes::is_fixed;
 use std::alloc::Global;
 use std::collections::BTreeSet;
 use std::marker::Model;
