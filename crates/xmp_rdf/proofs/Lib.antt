@@ -7,3 +7,4 @@ pub mod TopReadings
 pub mod RootReadings
 pub mod HintSets
 pub mod Twice
+pub mod PartLaws

@@ -12,13 +12,14 @@ mod meanings;
 mod members;
 mod merging;
 mod owning;
+mod parting;
 mod stops;
 mod texts;
 mod tops;
 mod values;
 mod walk;
 
-pub use meanings::{Meaning, Places};
+pub use meanings::{Meaning, Places, tree_of};
 pub use merging::{MergeStop, merge};
 pub use owning::own;
 pub use stops::RdfStop;
