@@ -201,9 +201,6 @@ inside_lacks : (inside : List ℕ) → IsInstructionText inside → Lacks (codes
 inside_lacks inside (inl none) = subst (Lacks (codes "?>")) (sym none) (nothing_lacks 0x3F (codes ">"))
 inside_lacks inside (inr (gap, body, hg, chars, lacks, at)) = subst (Lacks (codes "?>")) (sym at) (lacks_behind 0x3F (codes ">") gap body (blank_no_mark gap (gap_blank gap hg)) lacks)
 
-instruction_shape : (t i r : List ℕ) → codes "<?" ++ t ++ i ++ codes "?>" ++ r ≡ codes "<?" ++ (t ++ i ++ codes "?>" ++ r)
-instruction_shape t i r = refl
-
 pub instruction_row : (a b c d : List ℕ) → InstructionText a → InstructionText b → a ++ c ≡ b ++ d → (a ≡ b) × (c ≡ d)
 instruction_row a b c d (target, inside, ht, hi, at) (target', inside', ht', hi', at') e =
     let row : codes "<?" ++ (target ++ inside ++ codes "?>" ++ c) ≡ codes "<?" ++ (target' ++ inside' ++ codes "?>" ++ d) = ap (λ (t : List ℕ). t ++ c) (sym at) ∙ e ∙ ap (λ (t : List ℕ). t ++ d) at' in
@@ -217,10 +214,6 @@ instruction_row a b c d (target, inside, ht, hi, at) (target', inside', ht', hi'
 blank_no_name : (c : ℕ) → IsTrue (is_blank c) → is_name_char c ≡ false
 unfolding is_name_char is_name_start
 blank_no_name c h = fails_blank is_name_char c refl refl refl refl h
-
-gap_stops : (gap rest : List ℕ) → IsGap gap → Stops is_name_char (gap ++ rest)
-gap_stops [] rest h = absurd h
-gap_stops (c ∷ cs) rest h = blank_no_name c (all_head is_blank c cs h)
 
 version_stops : (version rest : List ℕ) → IsVersion version → Stops is_name_char (version ++ rest)
 version_stops version rest (digits, some, all, (gap, equals, quote, hg, he, hq, at)) =

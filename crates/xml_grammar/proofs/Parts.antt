@@ -21,10 +21,6 @@ or_left : (a b : Bool) → a ≡ true → (a || b) ≡ true
 or_left true b e = refl
 or_left false b e = absurd cc
 
-or_neither : (a b : Bool) → a ≡ false → b ≡ false → (a || b) ≡ false
-or_neither true b e f = absurd cc
-or_neither false b e f = f
-
 pub start_is_name : (c : ℕ) → is_name_start c ≡ true → is_name_char c ≡ true
 unfolding is_name_char
 start_is_name c h = or_left (is_name_start c) (is_within ((0x2D, 0x2E) ∷ (0x30, 0x39) ∷ (0xB7, 0xB7) ∷ (0x300, 0x36F) ∷ (0x203F, 0x2040) ∷ []) c) h

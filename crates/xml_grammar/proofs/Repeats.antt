@@ -8,7 +8,6 @@ use Rattle.std.proofs.lemmas.List.Kept.{AllPairs-cons}
 use Rattle.xmp_values.specs.declared.text.Name.{Name}
 use Rattle.xml_grammar.specs.declared.elements.Attribute.{Attribute}
 use Rattle.xml_grammar.specs.declared.tags.QName.{QName}
-use Rattle.xml_grammar.specs.declared.tags.RawAttribute.{RawAttribute}
 use Rattle.xml_grammar.specs.Scopes.{same_prefix, same_qname, same_name}
 use Rattle.xml_grammar.specs.Nesting.{has_twice}
 use Rattle.xml_grammar.proofs.Splits.{both, both_again, not_both}
@@ -77,13 +76,6 @@ module _ (A : Type 0) (same : A → A → Bool) (R : A → A → Type 0) (tells 
 -- where a test tells equality it fails where the two differ
 pub fails_differ : (A : Type 0) (same : Bool) (a b : A) → (same ≡ true) ↔ (a ≡ b) → (same ≡ false) ↔ (a ≢ b)
 fails_differ A same a b tells = (λ e is. not_both same (tells.1 is) e, λ differ. apart same (λ e. differ (tells.0 e)))
-
--- attributes that are spelled apart
-pub spelled_apart : (xs : List RawAttribute) → (has_twice (λ (a b : RawAttribute). same_qname a.name b.name) xs ≡ false) ↔ AllPairs (λ (a b : RawAttribute). a.name ≢ b.name) xs
-spelled_apart xs = (
-  apart_from_test RawAttribute (λ a b. same_qname a.name b.name) (λ a b. a.name ≢ b.name) (λ a b. fails_differ QName (same_qname a.name b.name) a.name b.name (same_qname_is a.name b.name)) xs,
-  test_from_apart RawAttribute (λ a b. same_qname a.name b.name) (λ a b. a.name ≢ b.name) (λ a b. fails_differ QName (same_qname a.name b.name) a.name b.name (same_qname_is a.name b.name)) xs,
-)
 
 -- attributes whose expanded names differ
 pub expanded_apart : (xs : List Attribute) → (has_twice (λ (a b : Attribute). same_name a.name b.name) xs ≡ false) ↔ AllPairs (λ (a b : Attribute). a.name ≢ b.name) xs

@@ -6,7 +6,7 @@ use Rattle.std.specs.Str.{bytes_eq}
 use Rattle.xmp_values.specs.declared.hints.Hint.{Hint}
 use Rattle.xml_grammar.specs.Scopes.{Binding, same_prefix, bound_to}
 use Rattle.xml_grammar.specs.Trees.{Placed, piece_hints, all_hints, first_hints}
-use Rattle.xml_grammar.proofs.SoundPieces.{same_bytes, bytes_same}
+use Rattle.xml_grammar.proofs.SoundPieces.{same_bytes}
 
 -- ---- what is bound
 
@@ -46,15 +46,6 @@ others-append x (y ∷ a) b = by (bytes_eq x.space y.space) (others-append x a b
     by : (t : Bool) → others x (a ++ b) ≡ others x a ++ others x b → cond (not t) (y ∷ others x (a ++ b)) (others x (a ++ b)) ≡ cond (not t) (y ∷ others x a) (others x a) ++ others x b
     by true e = e
     by false e = ap (λ (hs : List Hint). y ∷ hs) e
-
-bytes_swap : (a b : List ℕ) → bytes_eq a b ≡ bytes_eq b a
-bytes_swap a b = by (bytes_eq a b) (bytes_eq b a) refl refl
-  where
-    by : (p q : Bool) → bytes_eq a b ≡ p → bytes_eq b a ≡ q → p ≡ q
-    by true true e f = refl
-    by false false e f = refl
-    by true false e f = sym (bytes_same b a (sym (same_bytes a b e))) ∙ f
-    by false true e f = sym e ∙ bytes_same a b (sym (same_bytes b a f))
 
 -- other namespaces than x's are as known as before
 knows-others : (x : Hint) (space : List ℕ) (hs : List Hint) → bytes_eq x.space space ≡ false → knows space (others x hs) ≡ knows space hs

@@ -4,7 +4,7 @@ use Rattle.std.specs.Prelude.{IsTrue, codes, ◌==◌, encode_utf8_all, if◌the
 use Rattle.std.specs.List.{list_all}
 use Rattle.std.proofs.lemmas.Bool.{eqb-true, eq-eqb}
 use Rattle.std.proofs.lemmas.List.{append_cancel_left}
-use Rattle.xmp_values.specs.Characters.{is_char, is_blank}
+use Rattle.xmp_values.specs.Characters.{is_blank}
 use Rattle.xml_grammar.specs.Spelling.{AreBlank, IsGap, IsEquals, IsQuote, quoted, Entity, Lt, Gt, Amp, Apos, Quot, entity_name, entity_char, is_digit, number_from, SpellsReference, line_ends_after, line_ends, normal, SpellsValueChar, SpellsValueChars, SpellsValue}
 use Rattle.xml_grammar.proofs.Splits.{both, all_head, all_tail, all_cons, all_append, all_weaker, head_same, tail_same, cons_same, not_both, Stops, run_same}
 use Rattle.xml_grammar.proofs.Parts.{differs}
@@ -153,10 +153,6 @@ reference_begins v a (inr (inl (digits, some, all, is, char, at))) = (codes "#" 
 reference_begins v a (inr (inr (digits, some, all, is, char, at))) = (codes "#x" ++ digits ++ codes ";", at)
 
 -- ---- values
-
--- a literal character of a value
-abbrev Literal : ℕ → ℕ → List ℕ → Type 0
-Literal quote v text = (c : ℕ) × IsTrue (is_char c) × (c ≢ 0x3C) × (c ≢ 0x26) × (c ≢ quote) × (v ≡ normal c) × (text ≡ c ∷ [])
 
 value_char_row : (quote v w : ℕ) (a b c d : List ℕ) → SpellsValueChar quote v a → SpellsValueChar quote w b → a ++ c ≡ b ++ d → (v ≡ w) × (a ≡ b) × (c ≡ d)
 value_char_row quote v w a b c d (inl h) (inl k) e = reference_row v w a b c d h k e

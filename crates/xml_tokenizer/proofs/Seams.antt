@@ -1,9 +1,9 @@
 -- Where a text is cut.
-use Rattle.std.proofs.Common.{◌≡◌, ℕ, ◌-◌, Bool, true, false, List, [], ◌∷◌, ◌++◌, length, take, refl, sym, ap, ◌∙◌, append_assoc, arith}
+use Rattle.std.proofs.Common.{◌≡◌, ℕ, ◌-◌, Bool, true, false, List, [], ◌∷◌, ◌++◌, length, refl, sym, ap, ◌∙◌, append_assoc, arith}
 use Rattle.std.specs.List.{list_all}
 use Rattle.std.specs.Prelude.{IsTrue, encode_utf8, encode_utf8_all}
 use Rattle.std.specs.Str.{chars, IsUtf8, IsCharBoundary}
-use Rattle.std.proofs.lemmas.List.{length-append, append-nil, take_at}
+use Rattle.std.proofs.lemmas.List.{length-append, append-nil}
 use Rattle.std.proofs.lemmas.Str.{encodes-append, chars-nil, IsCharBoundary-at_seam}
 use Rattle.xml_grammar.proofs.Splits.{both}
 use Rattle.xml_tokenizer.specs.Runs.{Passes, taken, past}
@@ -75,8 +75,3 @@ pub seam : (text front rest : List ℕ) → text ≡ front ++ rest → IsUtf8 re
 seam text front rest e u =
     let k : length text - length rest ≡ length front = omega (arith, ap length e, length-append front rest) in
     rw k (IsCharBoundary-at_seam text front rest e u)
-
-pub before : (text front rest : List ℕ) → text ≡ front ++ rest → take (length text - length rest) text ≡ front
-before text front rest e =
-    let k : length text - length rest ≡ length front = omega (arith, ap length e, length-append front rest) in
-    rw (k, e) (take_at front rest (length front) refl)

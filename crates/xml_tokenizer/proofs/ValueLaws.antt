@@ -22,10 +22,6 @@ use Rattle.xml_tokenizer.proofs.Words.{after_takes}
 
 -- ---- tests
 
-or_false_again : (a b : Bool) → a ≡ false → b ≡ false → (a || b) ≡ false
-or_false_again true b e f = absurd cc
-or_false_again false b e f = f
-
 pub record Plain (quote c : ℕ) : Type 0 where
   pub char : IsTrue (is_char c)
   pub less : eqb c 60 ≡ false
@@ -111,12 +107,6 @@ ends_behind cs e = ends_feed cs ∙ ap line_ends e
 
 pub feed_is : (c : ℕ) (cs : List ℕ) → eqb c 10 ≡ false → past_feed (c ∷ cs) ≡ c ∷ cs
 feed_is c cs e = rw e refl
-
-ends_return : (cs : List ℕ) → line_ends (13 ∷ cs) ≡ 10 ∷ line_ends_after true cs
-ends_return cs = refl
-
-ends_both : (cs : List ℕ) → line_ends_after true (10 ∷ cs) ≡ line_ends cs
-ends_both cs = refl
 
 not_is : (y c : ℕ) → is_not y c ≡ true → eqb c y ≡ false
 not_is y c e = not_true (eqb c y) e
