@@ -13,6 +13,7 @@ mod kinds;
 #[cfg(test)]
 mod load_tests;
 mod loading;
+mod opening;
 
 pub use faults::{
     FILE_LIMIT, PACKET_LIMIT, fault_at, no_file, not_built, not_known, over_limit, over_packet,
@@ -20,3 +21,4 @@ pub use faults::{
 pub use held::Held;
 pub use kinds::{Kind, kind_of};
 pub use loading::{LoadStop, load};
+pub use opening::{OpenStop, Opened, read_file};
