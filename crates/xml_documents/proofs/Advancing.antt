@@ -1,8 +1,8 @@
 -- From one token to the next, as the reader's loop goes.
-use Rattle.std.proofs.Common.{◌≡◌, ◌≢◌, ℕ, ◌+◌, ◌-◌, ◌<◌, ◌≤◌, Bool, true, false, cond, eqb, List, [], ◌∷◌, ◌++◌, length, take, map, Result, Ok, Err, refl, sym, ap, subst, ◌∙◌, append_assoc, length-append, inl, inr, arith}
+use Rattle.std.proofs.Common.{◌≡◌, ◌≢◌, ℕ, ◌+◌, ◌-◌, ◌≤◌, Bool, true, false, cond, eqb, List, [], ◌∷◌, ◌++◌, length, take, map, Result, Ok, Err, refl, sym, ap, subst, ◌∙◌, length-append, inl, inr, arith}
 use Rattle.std.specs.Prelude.{chars, encode_utf8, encode_utf8_all, IfOk, IfErr}
 use Rattle.std.specs.Str.{IsUtf8, IsCharBoundary}
-use Rattle.std.proofs.lemmas.Str.{IsCharBoundary-at_seam, chars-nil, chars-append, encodes-chars, length-le-encodes}
+use Rattle.std.proofs.lemmas.Str.{IsCharBoundary-at_seam, chars-nil, chars-append, encodes-chars}
 use Rattle.std.proofs.lemmas.List.{append_cancel_right}
 use Rattle.xmp_values.specs.declared.hints.Hint.{Hint}
 use Rattle.xmp_values.specs.declared.rules.Rule.{Rule}
@@ -10,10 +10,10 @@ use Rattle.xml_grammar.specs.declared.elements.Element.{Element}
 use Rattle.xml_grammar.specs.declared.tokens.Mode.{Mode}
 use Rattle.xml_grammar.specs.declared.tokens.Token.{Token}
 use Rattle.xml_grammar.specs.declared.tokens.Token.TheVariants as tokens
-use Rattle.xml_grammar.specs.Pieces.{Piece, Character, Stands, StandsRow, HasPiece, later, pieces_of}
-use Rattle.xml_grammar.specs.Nesting.{Level, Nest, mode_of, mode_in}
-use Rattle.xml_grammar.specs.Documents.{width, behind_mark, IsDocument, IsFault, IsRule}
-use Rattle.xml_tokenizer.specs.Stands.{IsBehind, Fails}
+use Rattle.xml_grammar.specs.Pieces.{Piece, Character, StandsRow, HasPiece, later, pieces_of}
+use Rattle.xml_grammar.specs.Nesting.{mode_of, mode_in}
+use Rattle.xml_grammar.specs.Documents.{width, behind_mark, IsDocument, IsFault}
+use Rattle.xml_tokenizer.specs.Stands.{Fails}
 use Rattle.xml_tokenizer.specs.declared.stops.TokenStop.{TokenStop}
 use Rattle.xml_tokenizer.specs.declared.stops.TokenStop.TheVariants as token_stops
 use Rattle.xml_grammar.proofs.OneMeaning.{one_document, one_fault, no_fault}
@@ -23,12 +23,11 @@ use Rattle.xml_documents.specs.declared.stops.XmlStop.{XmlStop}
 use Rattle.xml_documents.specs.declared.stops.XmlStop.TheVariants as stops
 use Rattle.xml_documents.specs.Answering as answering
 use Rattle.xml_documents.specs.Building.{is_nil, levels_of, nest_of}
-use Rattle.xml_documents.specs.Document.{Fault, Contents, token_step, IsSpelled, Takes, Advances, Halts, finish}
+use Rattle.xml_documents.specs.Document.{Contents, IsSpelled, Takes, Advances, Halts, finish}
 use Rattle.xml_documents.specs.Documents.{Document}
 use Rattle.xml_documents.specs.Steps.{step_of, with_run}
 use Rattle.xml_documents.specs.Reading.{mode_by, stop_at, Stops, IsStop, AnswersDocument, AnswersFault}
 use Rattle.xml_documents.proofs.Stepping.{step_is}
-use Rattle.xml_documents.proofs.Starts.{place_ends}
 use Rattle.xml_documents.proofs.Reached.{Reached}
 use Rattle.xml_documents.proofs.Documents.{reached_next, document_from}
 use Rattle.xml_documents.proofs.Faults.{fault_at_end, fault_from}
@@ -75,7 +74,7 @@ fits_token mode (tokens.Run plain) text run rest u e h =
 pub mode_is : (s : Builder) → mode_by (is_nil s.outer) s.first ≡ mode_of (nest_of s)
 mode_is s = by s.first s.outer
   where
-    by : (first : Bool) (os : List Frame) → mode_by (is_nil os) first ≡ mode_in first (levels_of s.top os)
+    by : (first : Bool) (os : List Frame) → mode_by (is_nil os) first ≡ mode_in first (levels_of s.top os s.scope)
     by true [] = refl
     by false [] = refl
     by true (o ∷ os) = refl

@@ -51,7 +51,7 @@ run_free s run e = by_outer s.outer e
     by_same true h k = eqb-true _ _ h
     by_same false h k = absurd cc
 
-    by_outer : (outer : List Frame) → (is_nil outer && not (eqb (prefix_len is_blank (encode_utf8_all run)) (length (encode_utf8_all run)))) ≡ false → IsRunFree (record { first = s.first; levels = levels_of s.top outer; rooted = is_rooted outer s.root }) run
+    by_outer : (outer : List Frame) → (is_nil outer && not (eqb (prefix_len is_blank (encode_utf8_all run)) (length (encode_utf8_all run)))) ≡ false → IsRunFree (record { first = s.first; levels = levels_of s.top outer s.scope; rooted = is_rooted outer s.root }) run
     by_outer [] k = inr (all_blank run (by_same (eqb (prefix_len is_blank (encode_utf8_all run)) (length (encode_utf8_all run))) refl k))
     by_outer (o ∷ os) k = inl refl
 
@@ -100,7 +100,7 @@ finished : (s : Builder) (at : ℕ) (root : Element) (hints : List Hint) → Qui
 finished s at root hints q e = by_outer s.outer s.text s.root q e
   where
     by_outer : (outer : List Frame) (t : List ℕ) (o : Option Element) → IsQuiet outer t o → cond (is_nil outer) (or_unfinished at s.hints o) (Err (Unfinished, at)) ≡ Ok (root, hints)
-        → Finished (record { first = s.first; outer = outer; top = s.top; text = t; root = o; hints = s.hints }) root hints
+        → Finished (record { first = s.first; outer = outer; top = s.top; text = t; root = o; hints = s.hints; scope = s.scope }) root hints
     by_outer [] t None q e = absurd cc
     by_outer [] t (Some x) q e =
         let same = contents_is (x, first_hints s.hints) (root, hints) e in

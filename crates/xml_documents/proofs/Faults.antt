@@ -50,7 +50,7 @@ rule_fault text cs s r place u k at rule =
 pub fault_at_end : (text : List ℕ) (s : Builder) (r : Rule) (place : ℕ) → IsUtf8 text → Reached text s [] → finish s (length text) ≡ Err (r, place) → IsFault text r place
 fault_at_end text s r place u k e = by_outer s.outer s.root e refl refl
   where
-    unfinished : bad Contents (Unfinished, length text) ≡ bad Contents (r, place) → (levels_of s.top s.outer ≢ []) ⊎ (is_rooted s.outer s.root ≡ false) → IsFault text r place
+    unfinished : bad Contents (Unfinished, length text) ≡ bad Contents (r, place) → (levels_of s.top s.outer s.scope ≢ []) ⊎ (is_rooted s.outer s.root ≡ false) → IsFault text r place
     unfinished e why =
         let same = err_is Contents (Unfinished, length text) (r, place) e in
         let at : place ≡ length text - width [] = (sym (ap (λ (z : Fault). z.1) same)) ∙ (omega arith) in
@@ -59,7 +59,7 @@ fault_at_end text s r place u k e = by_outer s.outer s.root e refl refl
     by_outer : (outer : List Frame) (root : Option Element) → cond (is_nil outer) (or_unfinished (length text) s.hints root) (Err (Unfinished, length text)) ≡ Err (r, place) → s.outer ≡ outer → s.root ≡ root → IsFault text r place
     by_outer [] None e outer_is root_is = unfinished e (inr (ap (λ (z : List Frame). is_rooted z s.root) outer_is ∙ ap (is_rooted []) root_is))
     by_outer [] (Some x) e outer_is root_is = absurd cc
-    by_outer (o ∷ os) root e outer_is root_is = unfinished e (inl (λ h. let full : levels_of s.top (o ∷ os) ≡ [] = ap (levels_of s.top) (sym outer_is) ∙ h in cc))
+    by_outer (o ∷ os) root e outer_is root_is = unfinished e (inl (λ h. let full : levels_of s.top (o ∷ os) s.scope ≡ [] = ap (λ (z : List Frame). levels_of s.top z s.scope) (sym outer_is) ∙ h in cc))
 
 -- ---- a piece that breaks a rule
 
@@ -170,7 +170,7 @@ run_halts text cs left run s place u k row none dark at = by_back b.back refl
         let long = b.long in
         let wide = c.wide in
         let ends = place_ends text cs k.pieces u k.read in
-        let outside : levels_of s.top s.outer ≡ [] = ap (levels_of s.top) none in
+        let outside : levels_of s.top s.outer s.scope ≡ [] = ap (λ (z : List Frame). levels_of s.top z s.scope) none in
         let rule : IsRule (behind_run (nest_of s) b.front) c.middle OutsideRoot =
         outside_rule (behind_run (nest_of s) b.front) c.next d ds c.middle left (behind_levels (nest_of s) b.front ∙ outside) (subst (Stops is_blank) is b.stops) c.back in
         fault_made text OutsideRoot place (k.pieces ++ placed_run (length text - width cs) b.front) c.middle u

@@ -1,7 +1,6 @@
 -- The first hint of each namespace, one by one.
-use Rattle.std.proofs.Common.{◌≡◌, ◌⊎◌, ◌↔◌, ℕ, ◌+◌, ◌<◌, Bool, true, false, cond, not, ◌||◌, List, [], ◌∷◌, ◌++◌, length, take, get_or, refl, sym, ap, subst, ◌∙◌, inl, inr, ⊎_elim, arith}
+use Rattle.std.proofs.Common.{◌≡◌, ◌⊎◌, ◌↔◌, ℕ, Bool, true, false, ◌||◌, List, [], ◌∷◌, ◌++◌, refl, sym, ap, subst, ◌∙◌, inl, inr, ⊎_elim, arith}
 use Rattle.std.specs.Prelude.{Contains, MatchBool, if◌then◌else◌}
-use Rattle.std.specs.List.{list_any}
 use Rattle.std.specs.Str.{bytes_eq}
 use Rattle.std.proofs.lemmas.Bool.{MatchBool-at_true, MatchBool-at_false, or_cases, or_left, or_right}
 use Rattle.std.proofs.lemmas.List.Folds.{list_any-append}
@@ -10,9 +9,8 @@ use Rattle.xmp_values.specs.declared.text.Name.{Name}
 use Rattle.xmp_values.specs.Names.{named}
 use Rattle.xml_grammar.specs.Trees.{first_hints}
 use Rattle.xml_grammar.proofs.Parts.{apart}
-use Rattle.xml_grammar.proofs.Scoping.{knows, with_hint, knows-first, first_hints-push}
+use Rattle.xml_grammar.proofs.Scoping.{knows, knows-first, first_hints-push}
 use Rattle.xml_grammar.proofs.SoundPieces.{same_bytes, bytes_same}
-use Rattle.xml_documents.proofs.Scans.{take_here}
 
 -- the set holds the namespaces of these hints
 abbrev pub Sees : List Name → List Hint → Type 0

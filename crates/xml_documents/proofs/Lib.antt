@@ -5,6 +5,10 @@ pub mod Walks
 pub mod Documents
 pub mod Faults
 pub mod Scans
+pub mod Naming
+pub mod Placing
+pub mod Numbering
+pub mod InForce
 pub mod Tagging
 pub mod Stepping
 pub mod Hinting

@@ -1,6 +1,7 @@
 -- What a piece, and a run of them, does to a builder.
-use Rattle.std.proofs.Common.{◌≡◌, ℕ, ◌+◌, ◌-◌, length, Bool, true, false, cond, not, ◌&&◌, List, [], ◌∷◌, ◌++◌, map, Option, Some, None, refl, sym, ap, subst, ◌∙◌, append_assoc, append-nil}
+use Rattle.std.proofs.Common.{◌≡◌, ℕ, ◌+◌, ◌-◌, length, Bool, true, false, cond, not, ◌&&◌, List, [], ◌∷◌, ◌++◌, map, Option, Some, None, refl, sym, ap, subst, ◌∙◌, append_assoc, append-nil, drop}
 use Rattle.std.specs.Prelude.{chars, encode_utf8, encode_utf8_all}
+use Rattle.std.proofs.Math.Seq.{drop-append_seam}
 use Rattle.std.specs.List.{filter_map}
 use Rattle.std.specs.Str.{IsUtf8}
 use Rattle.xmp_values.specs.declared.hints.Hint.{Hint}
@@ -27,59 +28,72 @@ use Rattle.xml_documents.proofs.Starts.{place_from}
 
 -- ---- the builder's nest is the nest of the pieces
 
-bound_child : (f : Frame) (c : Child) (os : List Frame) → bound_of (with_child f c) os ≡ bound_of f os
-bound_child f c [] = refl
-bound_child f c (o ∷ os) = refl
+levels_child : (f : Frame) (c : Child) (os : List Frame) (scope : List Binding) → levels_of (with_child f c) os scope ≡ levels_of f os scope
+levels_child f c [] scope = refl
+levels_child f c (o ∷ os) scope = refl
 
-bound_texted : (f : Frame) (t : List ℕ) (os : List Frame) → bound_of (texted f t) os ≡ bound_of f os
-bound_texted f [] os = refl
-bound_texted f (b ∷ bs) os = bound_child f (child.Text (b ∷ bs)) os
+levels_texted : (f : Frame) (t : List ℕ) (os : List Frame) (scope : List Binding) → levels_of (texted f t) os scope ≡ levels_of f os scope
+levels_texted f [] os scope = refl
+levels_texted f (b ∷ bs) os scope = levels_child f (child.Text (b ∷ bs)) os scope
 
-levels_child : (f : Frame) (c : Child) (os : List Frame) → levels_of (with_child f c) os ≡ levels_of f os
-levels_child f c [] = refl
-levels_child f c (o ∷ os) = refl
+declared_texted : (f : Frame) (t : List ℕ) → (texted f t).declared ≡ f.declared
+declared_texted f [] = refl
+declared_texted f (b ∷ bs) = refl
 
-levels_texted : (f : Frame) (t : List ℕ) (os : List Frame) → levels_of (texted f t) os ≡ levels_of f os
-levels_texted f [] os = refl
-levels_texted f (b ∷ bs) os = levels_child f (child.Text (b ∷ bs)) os
-
-bound_levels : (f : Frame) (os : List Frame) → bound_in (levels_of f os) ≡ bound_of f os
-bound_levels f [] = refl
-bound_levels f (o ∷ os) = refl
+bound_levels : (f : Frame) (os : List Frame) (scope : List Binding) → bound_in (levels_of f os scope) ≡ bound_of os scope
+bound_levels f [] scope = refl
+bound_levels f (o ∷ os) scope = refl
 
 abbrev nest : List Level → Bool → Nest
 nest levels rooted = record { first = false; levels = levels; rooted = rooted }
 
-pub text_nest : (s : Builder) (t : List ℕ) → nest_of (with_text s t) ≡ nest (levels_of s.top s.outer) (is_rooted s.outer s.root)
+pub text_nest : (s : Builder) (t : List ℕ) → nest_of (with_text s t) ≡ nest (levels_of s.top s.outer s.scope) (is_rooted s.outer s.root)
 text_nest s t = by_outside (is_nil s.outer)
   where
-    by_outside : (v : Bool) → nest_of (cond v (passed s) (record { first = false; outer = s.outer; top = s.top; text = s.text ++ t; root = s.root; hints = s.hints })) ≡ nest (levels_of s.top s.outer) (is_rooted s.outer s.root)
+    by_outside : (v : Bool) → nest_of (cond v (passed s) (record { first = false; outer = s.outer; top = s.top; text = s.text ++ t; root = s.root; hints = s.hints; scope = s.scope })) ≡ nest (levels_of s.top s.outer s.scope) (is_rooted s.outer s.root)
     by_outside true = refl
     by_outside false = refl
 
 tag_nest : (s : Builder) (at : ℕ) (tag : Tag) → nest_of (closed_if tag.empty (opened s at tag)) ≡ enter (nest_of s) (Start tag)
 tag_nest s at tag = by_empty tag.empty
   where
-    bound_is : bound_of (texted s.top s.text) s.outer ≡ bound_in (levels_of s.top s.outer)
-    bound_is = bound_texted s.top s.text s.outer ∙ sym (bound_levels s.top s.outer)
+    own : List Binding
+    own = bindings_of tag.attributes
 
-    entered : (os : List Frame) (f : Frame) (hints : List Hint) → nest_of (popped (texted s.top s.text ∷ os) f s.root hints) ≡ nest (levels_of s.top os) true
-    entered [] f hints = refl
-    entered (o ∷ os) f hints = ap (λ (ls : List Level). nest ls true) (levels_child (texted s.top s.text) (child.Element (element f)) (o ∷ os) ∙ levels_texted s.top s.text (o ∷ os))
+    inside : List Binding
+    inside = own ++ bound_of s.outer s.scope
 
-    by_empty : (e : Bool) → nest_of (closed_if e (opened s at tag)) ≡ nest (nesting.opened e (record { name = tag.name; bound = bound_at (nest_of s) tag }) (levels_of s.top s.outer)) true
-    by_empty true = entered s.outer (texted (frame at tag (bindings_of tag.attributes ++ bound_of s.top s.outer)) []) (s.hints ++ filter_map hint_of (bindings_of tag.attributes))
+    -- the scope around the tag is what its declarations leave
+    around : (os : List Frame) → levels_of s.top os (drop (length own) (own ++ bound_of os s.scope)) ≡ levels_of s.top os s.scope
+    around [] = refl
+    around (o ∷ os) = ap (levels_of s.top (o ∷ os)) (drop-append_seam own s.scope)
+
+    entered : (os : List Frame) (f : Frame) (hints : List Hint) → f.declared ≡ length own
+        → nest_of (popped (texted s.top s.text ∷ os) f s.root hints (own ++ bound_of os s.scope)) ≡ nest (levels_of s.top os s.scope) true
+    entered [] f hints n = refl
+    entered (o ∷ os) f hints n =
+        ap (λ (ls : List Level). nest ls true)
+        (levels_child (texted s.top s.text) (child.Element (element f)) (o ∷ os) (drop f.declared (own ++ s.scope))
+        ∙ levels_texted s.top s.text (o ∷ os) (drop f.declared (own ++ s.scope))
+        ∙ ap (λ (k : ℕ). levels_of s.top (o ∷ os) (drop k (own ++ s.scope))) n
+        ∙ around (o ∷ os))
+
+    by_empty : (e : Bool) → nest_of (closed_if e (opened s at tag)) ≡ nest (nesting.opened e (record { name = tag.name; bound = bound_at (nest_of s) tag }) (levels_of s.top s.outer s.scope)) true
+    by_empty true = entered s.outer (texted (frame at tag inside) []) (s.hints ++ filter_map hint_of own) refl
     by_empty false =
-        ap (λ (bound : List Binding). nest (record { name = tag.name; bound = bindings_of tag.attributes ++ bound } ∷ levels_of (texted s.top s.text) s.outer) true) bound_is
-        ∙ ap (λ (ls : List Level). nest (record { name = tag.name; bound = bound_at (nest_of s) tag } ∷ ls) true) (levels_texted s.top s.text s.outer)
+        ap (λ (bound : List Binding). nest (record { name = tag.name; bound = own ++ bound } ∷ levels_of (texted s.top s.text) s.outer (drop (length own) inside)) true) (sym (bound_levels s.top s.outer s.scope))
+        ∙ ap (λ (ls : List Level). nest (record { name = tag.name; bound = bound_at (nest_of s) tag } ∷ ls) true) (levels_texted s.top s.text s.outer (drop (length own) inside) ∙ around s.outer)
 
 end_nest : (s : Builder) (name : QName) → nest_of (closed s) ≡ enter (nest_of s) (End name)
 end_nest s name = ended s.outer
   where
-    ended : (os : List Frame) → nest_of (popped os (texted s.top s.text) s.root s.hints) ≡ nest (nesting.outer (levels_of s.top os)) (is_rooted os s.root)
+    ended : (os : List Frame) → nest_of (popped os (texted s.top s.text) s.root s.hints s.scope) ≡ nest (nesting.outer (levels_of s.top os s.scope)) (is_rooted os s.root)
     ended [] = refl
     ended (o ∷ []) = refl
-    ended (o ∷ q ∷ os) = ap (λ (ls : List Level). nest ls true) (levels_child o (child.Element (element (texted s.top s.text))) (q ∷ os))
+    ended (o ∷ q ∷ os) =
+        ap (λ (ls : List Level). nest ls true)
+        (levels_child o (child.Element (element (texted s.top s.text))) (q ∷ os) (drop (texted s.top s.text).declared s.scope)
+        ∙ ap (λ (k : ℕ). levels_of o (q ∷ os) (drop k s.scope)) (declared_texted s.top s.text))
 
 pub after_nest : (s : Builder) (at : ℕ) (p : Piece) → nest_of (after s at p) ≡ enter (nest_of s) p
 unfolding after
@@ -98,20 +112,20 @@ after_nest s at (Character c) = text_nest s (encode_utf8 c)
 text_hints : (s : Builder) (t : List ℕ) → (with_text s t).hints ≡ s.hints
 text_hints s t = by_outside (is_nil s.outer)
   where
-    by_outside : (v : Bool) → (cond v (passed s) (record { first = false; outer = s.outer; top = s.top; text = s.text ++ t; root = s.root; hints = s.hints })).hints ≡ s.hints
+    by_outside : (v : Bool) → (cond v (passed s) (record { first = false; outer = s.outer; top = s.top; text = s.text ++ t; root = s.root; hints = s.hints; scope = s.scope })).hints ≡ s.hints
     by_outside true = refl
     by_outside false = refl
 
-popped_hints : (os : List Frame) (f : Frame) (root : Option Element) (hints : List Hint) → (popped os f root hints).hints ≡ hints
-popped_hints [] f root hints = refl
-popped_hints (o ∷ []) f root hints = refl
-popped_hints (o ∷ q ∷ os) f root hints = refl
+popped_hints : (os : List Frame) (f : Frame) (root : Option Element) (hints : List Hint) (scope : List Binding) → (popped os f root hints scope).hints ≡ hints
+popped_hints [] f root hints scope = refl
+popped_hints (o ∷ []) f root hints scope = refl
+popped_hints (o ∷ q ∷ os) f root hints scope = refl
 
 tag_hints : (s : Builder) (at : ℕ) (tag : Tag) → (closed_if tag.empty (opened s at tag)).hints ≡ s.hints ++ piece_hints (Start tag)
 tag_hints s at tag = by_empty tag.empty
   where
     by_empty : (e : Bool) → (closed_if e (opened s at tag)).hints ≡ s.hints ++ piece_hints (Start tag)
-    by_empty true = popped_hints (opened s at tag).outer (texted (opened s at tag).top []) s.root (s.hints ++ piece_hints (Start tag))
+    by_empty true = popped_hints (opened s at tag).outer (texted (opened s at tag).top []) s.root (s.hints ++ piece_hints (Start tag)) (opened s at tag).scope
     by_empty false = refl
 
 pub after_hints : (s : Builder) (at : ℕ) (p : Piece) → (after s at p).hints ≡ s.hints ++ piece_hints p
@@ -121,7 +135,7 @@ after_hints s at Instruction = sym (append-nil s.hints)
 after_hints s at Comment = sym (append-nil s.hints)
 after_hints s at (Cdata t) = text_hints s t ∙ sym (append-nil s.hints)
 after_hints s at (Start tag) = tag_hints s at tag
-after_hints s at (End name) = popped_hints s.outer (texted s.top s.text) s.root s.hints ∙ sym (append-nil s.hints)
+after_hints s at (End name) = popped_hints s.outer (texted s.top s.text) s.root s.hints s.scope ∙ sym (append-nil s.hints)
 after_hints s at (Reference c) = text_hints s (encode_utf8 c) ∙ sym (append-nil s.hints)
 after_hints s at LineEnd = text_hints s (0xA ∷ []) ∙ sym (append-nil s.hints)
 after_hints s at (Character c) = text_hints s (encode_utf8 c) ∙ sym (append-nil s.hints)
@@ -154,10 +168,10 @@ frames_texted (o ∷ os) f (b ∷ bs) root es m q =
     ap (λ (x : List Event). frames os o (Opens f.at f.name f.attributes ∷ x)) (sym push)
 
 -- the innermost element ends
-closed_shown : (os : List Frame) (f : Frame) (root : Option Element) (hints : List Hint) (es : List Event) → (os ≡ [] → ⊥) → root ≡ None → before root (frames os f (Closes ∷ es)) ≡ shown (popped os f root hints) es
-closed_shown [] f root hints es full none = absurd (full refl)
-closed_shown (document ∷ []) f root hints es full none = rw none (sym (element_shown f es))
-closed_shown (parent ∷ o ∷ os) f root hints es full none =
+closed_shown : (os : List Frame) (f : Frame) (root : Option Element) (hints : List Hint) (scope : List Binding) (es : List Event) → (os ≡ [] → ⊥) → root ≡ None → before root (frames os f (Closes ∷ es)) ≡ shown (popped os f root hints scope) es
+closed_shown [] f root hints scope es full none = absurd (full refl)
+closed_shown (document ∷ []) f root hints scope es full none = rw none (sym (element_shown f es))
+closed_shown (parent ∷ o ∷ os) f root hints scope es full none =
     let push : inside (with_child parent (child.Element (element f))) es ≡ inside parent (Opens f.at f.name f.attributes ∷ inside f (Closes ∷ es)) =
     joined_push parent.children (child.Element (element f)) es ∙ ap (inside parent) (element_shown f es) in
     ap (λ (x : List Event). before root (frames os o (Opens parent.at parent.name parent.attributes ∷ x))) (sym push)
@@ -165,35 +179,35 @@ closed_shown (parent ∷ o ∷ os) f root hints es full none =
 abbrev pub Quiet : Builder → Type 0
 Quiet s = IsQuiet s.outer s.text s.root
 
-closed_quiet : (os : List Frame) (f : Frame) (root : Option Element) (hints : List Hint) → root ≡ None → Quiet (popped os f root hints)
-closed_quiet [] f root hints none = refl
-closed_quiet (document ∷ []) f root hints none = refl
-closed_quiet (parent ∷ o ∷ os) f root hints none = none
+closed_quiet : (os : List Frame) (f : Frame) (root : Option Element) (hints : List Hint) (scope : List Binding) → root ≡ None → Quiet (popped os f root hints scope)
+closed_quiet [] f root hints scope none = refl
+closed_quiet (document ∷ []) f root hints scope none = refl
+closed_quiet (parent ∷ o ∷ os) f root hints scope none = none
 
 -- a tag may not stand behind the root
 no_root : (s : Builder) (tag : Tag) → Quiet s → broken (nest_of s) (Start tag) ≡ None → s.root ≡ None
 no_root s tag quiet good = by_outer s.outer s.root quiet (unbroken (nest_of s) (Start tag) good).placed
   where
-    by_outer : (outer : List Frame) (root : Option Element) → IsQuiet outer s.text root → (is_outside (levels_of s.top outer) && not (not (is_rooted outer root))) ≡ false → root ≡ None
+    by_outer : (outer : List Frame) (root : Option Element) → IsQuiet outer s.text root → (is_outside (levels_of s.top outer s.scope) && not (not (is_rooted outer root))) ≡ false → root ≡ None
     by_outer [] None q e = refl
     by_outer [] (Some x) q e = absurd cc
     by_outer (o ∷ os) root q e = q
 
 -- ---- text
 
-pub text_shown : (s : Builder) (t : List ℕ) (es : List Event) → shown s (put_inside (levels_of s.top s.outer) t es) ≡ shown (with_text s t) es
+pub text_shown : (s : Builder) (t : List ℕ) (es : List Event) → shown s (put_inside (levels_of s.top s.outer s.scope) t es) ≡ shown (with_text s t) es
 text_shown s t es = by_outer s.outer
   where
-    by_outer : (outer : List Frame) → before s.root (frames outer s.top (put s.text (put_inside (levels_of s.top outer) t es)))
-        ≡ shown (cond (is_nil outer) (record { first = false; outer = outer; top = s.top; text = s.text; root = s.root; hints = s.hints }) (record { first = false; outer = outer; top = s.top; text = s.text ++ t; root = s.root; hints = s.hints })) es
+    by_outer : (outer : List Frame) → before s.root (frames outer s.top (put s.text (put_inside (levels_of s.top outer s.scope) t es)))
+        ≡ shown (cond (is_nil outer) (record { first = false; outer = outer; top = s.top; text = s.text; root = s.root; hints = s.hints; scope = s.scope }) (record { first = false; outer = outer; top = s.top; text = s.text ++ t; root = s.root; hints = s.hints; scope = s.scope })) es
     by_outer [] = refl
-    by_outer (o ∷ os) = ap (λ (x : List Event). before s.root (frames (o ∷ os) s.top x)) (put_inside-append (levels_of s.top (o ∷ os)) s.text t es)
+    by_outer (o ∷ os) = ap (λ (x : List Event). before s.root (frames (o ∷ os) s.top x)) (put_inside-append (levels_of s.top (o ∷ os) s.scope) s.text t es)
 
 pub text_quiet : (s : Builder) (t : List ℕ) → Quiet s → Quiet (with_text s t)
 text_quiet s t q = by_outer s.outer q
   where
     by_outer : (outer : List Frame) → IsQuiet outer s.text s.root
-        → Quiet (cond (is_nil outer) (record { first = false; outer = outer; top = s.top; text = s.text; root = s.root; hints = s.hints }) (record { first = false; outer = outer; top = s.top; text = s.text ++ t; root = s.root; hints = s.hints }))
+        → Quiet (cond (is_nil outer) (record { first = false; outer = outer; top = s.top; text = s.text; root = s.root; hints = s.hints; scope = s.scope }) (record { first = false; outer = outer; top = s.top; text = s.text ++ t; root = s.root; hints = s.hints; scope = s.scope }))
     by_outer [] q = q
     by_outer (o ∷ os) q = q
 
@@ -204,33 +218,33 @@ begun at tag es bound = Opens at (element_name bound tag.name) (expanded_attribu
 
 tag_shown : (s : Builder) (at : ℕ) (tag : Tag) (es : List Event) → Quiet s → broken (nest_of s) (Start tag) ≡ None → shown s (piece_events (nest_of s) (at, Start tag) es) ≡ shown (closed_if tag.empty (opened s at tag)) es
 tag_shown s at tag es q good =
-    ap (λ (bound : List Binding). before s.root (frames s.outer s.top (put s.text (begun at tag es (bindings_of tag.attributes ++ bound))))) (bound_levels s.top s.outer)
-    ∙ ap (before s.root) (frames_texted s.outer s.top s.text s.root (begun at tag es (bindings_of tag.attributes ++ bound_of s.top s.outer)) (λ b bs. refl) q)
+    ap (λ (bound : List Binding). before s.root (frames s.outer s.top (put s.text (begun at tag es (bindings_of tag.attributes ++ bound))))) (bound_levels s.top s.outer s.scope)
+    ∙ ap (before s.root) (frames_texted s.outer s.top s.text s.root (begun at tag es (bindings_of tag.attributes ++ bound_of s.outer s.scope)) (λ b bs. refl) q)
     ∙ by_empty tag.empty
   where
     by_empty : (e : Bool) → before s.root (frames (opened s at tag).outer (opened s at tag).top (closing e es)) ≡ shown (closed_if e (opened s at tag)) es
-    by_empty true = closed_shown (opened s at tag).outer (opened s at tag).top s.root (opened s at tag).hints es (λ e. cc) (no_root s tag q good)
+    by_empty true = closed_shown (opened s at tag).outer (opened s at tag).top s.root (opened s at tag).hints (opened s at tag).scope es (λ e. cc) (no_root s tag q good)
     by_empty false = refl
 
 tag_quiet : (s : Builder) (at : ℕ) (tag : Tag) → Quiet s → broken (nest_of s) (Start tag) ≡ None → Quiet (closed_if tag.empty (opened s at tag))
 tag_quiet s at tag q good = by_empty tag.empty
   where
     by_empty : (e : Bool) → Quiet (closed_if e (opened s at tag))
-    by_empty true = closed_quiet (opened s at tag).outer (opened s at tag).top s.root (opened s at tag).hints (no_root s tag q good)
+    by_empty true = closed_quiet (opened s at tag).outer (opened s at tag).top s.root (opened s at tag).hints (opened s at tag).scope (no_root s tag q good)
     by_empty false = no_root s tag q good
 
 -- an end tag stands inside an element
 is_open : (s : Builder) (name : QName) → Quiet s → broken (nest_of s) (End name) ≡ None → (s.outer ≡ [] → ⊥) × (s.root ≡ None)
 is_open s name quiet good = by_outer s.outer quiet (unbroken (nest_of s) (End name) good).placed
   where
-    by_outer : (outer : List Frame) → IsQuiet outer s.text s.root → (is_outside (levels_of s.top outer) && true) ≡ false → (outer ≡ [] → ⊥) × (s.root ≡ None)
+    by_outer : (outer : List Frame) → IsQuiet outer s.text s.root → (is_outside (levels_of s.top outer s.scope) && true) ≡ false → (outer ≡ [] → ⊥) × (s.root ≡ None)
     by_outer [] q e = absurd cc
     by_outer (o ∷ os) q e = ((λ h. cc), q)
 
 end_shown : (s : Builder) (name : QName) (es : List Event) → Quiet s → broken (nest_of s) (End name) ≡ None → shown s (Closes ∷ es) ≡ shown (closed s) es
 end_shown s name es q good =
     let k = is_open s name q good in
-    ap (before s.root) (frames_texted s.outer s.top s.text s.root (Closes ∷ es) (λ b bs. refl) q) ∙ closed_shown s.outer (texted s.top s.text) s.root s.hints es k.0 k.1
+    ap (before s.root) (frames_texted s.outer s.top s.text s.root (Closes ∷ es) (λ b bs. refl) q) ∙ closed_shown s.outer (texted s.top s.text) s.root s.hints s.scope es k.0 k.1
 
 -- ---- one piece
 
@@ -253,7 +267,7 @@ quiet_at s at Instruction q good = q
 quiet_at s at Comment q good = q
 quiet_at s at (Cdata t) q good = text_quiet s t q
 quiet_at s at (Start tag) q good = tag_quiet s at tag q good
-quiet_at s at (End name) q good = closed_quiet s.outer (texted s.top s.text) s.root s.hints (is_open s name q good).1
+quiet_at s at (End name) q good = closed_quiet s.outer (texted s.top s.text) s.root s.hints s.scope (is_open s name q good).1
 quiet_at s at (Reference c) q good = text_quiet s (encode_utf8 c) q
 quiet_at s at LineEnd q good = text_quiet s (0xA ∷ []) q
 quiet_at s at (Character c) q good = text_quiet s (encode_utf8 c) q

@@ -1,6 +1,5 @@
 -- What a function of the reader returned, beside what reading gives.
 use Rattle.std.specs.Prelude.{◌≡◌, Result, Ok, Err}
-use Rattle.xml_documents.specs.declared.builder.Builder.{Builder}
 use Rattle.xml_documents.specs.declared.stops.XmlStop.{XmlStop}
 use Rattle.xml_documents.specs.declared.stops.XmlStop.TheVariants as stops
 use Rattle.xml_documents.specs.Document.{Fault}

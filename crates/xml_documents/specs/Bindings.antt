@@ -1,5 +1,5 @@
 -- Declarations of namespaces, as values that are stored.
-use Rattle.std.specs.Prelude.{◌≡◌, ℕ, List, Option, refl}
+use Rattle.std.specs.Prelude.{ℕ, List, Option, refl}
 use Rattle.std.specs.Coded.{Coded, code_by, coded_list, coded_option, coded_ℕ, coded×}
 use Rattle.xml_grammar.specs.Scopes.{Binding}
 

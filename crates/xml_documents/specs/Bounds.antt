@@ -1,7 +1,7 @@
 -- What the declarations of a tag are to contracts.
 use Rattle.std.specs.Prelude.{List, map}
 use Rattle.xml_grammar.specs.Scopes.{Binding}
-use Rattle.xml_documents.specs.declared.scopes.Bound.{Bound}
+use Rattle.xml_documents.specs.declared.declarations.Bound.{Bound}
 
 abbrev pub binding_in : Bound → Binding
 binding_in b = record { prefix = b.prefix; space = b.space }

@@ -1,5 +1,5 @@
 -- The element tree, as far as it is read.
-use Rattle.std.specs.Prelude.{ℕ, Bool, true, false, List, [], ◌∷◌, ◌++◌, is_some, if◌then◌else◌, Option, Some, None, encode_utf8}
+use Rattle.std.specs.Prelude.{ℕ, Bool, true, false, List, [], ◌∷◌, ◌++◌, is_some, if◌then◌else◌, Option, Some, None, encode_utf8, length, drop}
 use Rattle.std.specs.List.{filter_map}
 use Rattle.xmp_values.specs.declared.hints.Hint.{Hint}
 use Rattle.xml_grammar.specs.declared.elements.Child.{Child}
@@ -19,30 +19,31 @@ is_nil (x ∷ xs) = false
 
 -- ---- the nest that is read in
 
--- the declarations in force in the innermost element; the outermost frame is the document's
-abbrev pub bound_of : Frame → List Frame → List Binding
-bound_of f [] = predeclared
-bound_of f (o ∷ os) = f.declared ++ bound_of o os
+-- the declarations in force; the scope holds them inside the root
+abbrev pub bound_of : List Frame → List Binding → List Binding
+bound_of [] scope = predeclared
+bound_of (o ∷ os) scope = scope
 
-abbrev pub levels_of : Frame → List Frame → List Level
-levels_of f [] = []
-levels_of f (o ∷ os) = record { name = f.spelled; bound = bound_of f (o ∷ os) } ∷ levels_of o os
+-- the outermost frame is the document's
+abbrev pub levels_of : Frame → List Frame → List Binding → List Level
+levels_of f [] scope = []
+levels_of f (o ∷ os) scope = record { name = f.spelled; bound = scope } ∷ levels_of o os (drop f.declared scope)
 
 abbrev pub is_rooted : List Frame → Option Element → Bool
 is_rooted [] root = is_some root
 is_rooted (o ∷ os) root = true
 
 abbrev pub nest_of : Builder → Nest
-nest_of s = record { first = s.first; levels = levels_of s.top s.outer; rooted = is_rooted s.outer s.root }
+nest_of s = record { first = s.first; levels = levels_of s.top s.outer s.scope; rooted = is_rooted s.outer s.root }
 
 -- ---- one step further
 
 abbrev pub document : Frame
-document = record { at = 0; spelled = record { prefix = None; local = [] }; name = record { space = []; local = [] }; attributes = []; declared = []; children = [] }
+document = record { at = 0; spelled = record { prefix = None; local = [] }; name = record { space = []; local = [] }; attributes = []; declared = 0; children = [] }
 
 -- the builder before anything is read
 abbrev pub start : Builder
-start = record { first = true; outer = []; top = document; text = []; root = None; hints = [] }
+start = record { first = true; outer = []; top = document; text = []; root = None; hints = []; scope = [] }
 
 abbrev pub element : Frame → Element
 element f = roll-Element record { at = f.at; name = f.name; attributes = f.attributes; children = f.children }
@@ -56,33 +57,41 @@ texted f [] = f
 texted f (b ∷ bs) = with_child f (child.Text (b ∷ bs))
 
 abbrev pub flushed : Builder → Builder
-flushed s = record { first = s.first; outer = s.outer; top = texted s.top s.text; text = []; root = s.root; hints = s.hints }
+flushed s = record { first = s.first; outer = s.outer; top = texted s.top s.text; text = []; root = s.root; hints = s.hints; scope = s.scope }
 
 -- a piece without meaning is read
 abbrev pub passed : Builder → Builder
-passed s = record { first = false; outer = s.outer; top = s.top; text = s.text; root = s.root; hints = s.hints }
+passed s = record { first = false; outer = s.outer; top = s.top; text = s.text; root = s.root; hints = s.hints; scope = s.scope }
 
 -- white space outside the root is no text
 abbrev pub with_text : Builder → List ℕ → Builder
-with_text s text = if is_nil s.outer then passed s else record { first = false; outer = s.outer; top = s.top; text = s.text ++ text; root = s.root; hints = s.hints }
+with_text s text = if is_nil s.outer then passed s else record { first = false; outer = s.outer; top = s.top; text = s.text ++ text; root = s.root; hints = s.hints; scope = s.scope }
 
 -- the frame of a tag
 abbrev pub frame : ℕ → Tag → List Binding → Frame
-frame at tag bound = record { at = at; spelled = tag.name; name = element_name bound tag.name; attributes = expanded_attributes bound tag.attributes; declared = bindings_of tag.attributes; children = [] }
+frame at tag bound = record { at = at; spelled = tag.name; name = element_name bound tag.name; attributes = expanded_attributes bound tag.attributes; declared = length (bindings_of tag.attributes); children = [] }
 
-abbrev pub with_frame : Builder → Frame → List Hint → Builder
-with_frame s f hints = record { first = false; outer = texted s.top s.text ∷ s.outer; top = f; text = []; root = s.root; hints = s.hints ++ hints }
+-- without the declarations in force
+abbrev pub unscoped : Builder → Builder
+unscoped s = record { first = s.first; outer = s.outer; top = s.top; text = s.text; root = s.root; hints = s.hints; scope = [] }
+
+-- an element more, with the declarations in force inside it
+abbrev pub with_frame : Builder → Frame → List Binding → List Hint → Builder
+with_frame s f inside hints = record { first = false; outer = texted s.top s.text ∷ s.outer; top = f; text = []; root = s.root; hints = s.hints ++ hints; scope = inside }
+
+abbrev pub opened_in : Builder → ℕ → Tag → List Binding → Builder
+opened_in s at tag inside = with_frame s (frame at tag inside) inside (filter_map hint_of (bindings_of tag.attributes))
 
 abbrev pub opened : Builder → ℕ → Tag → Builder
-opened s at tag = with_frame s (frame at tag (bindings_of tag.attributes ++ bound_of s.top s.outer)) (filter_map hint_of (bindings_of tag.attributes))
+opened s at tag = opened_in s at tag (bindings_of tag.attributes ++ bound_of s.outer s.scope)
 
-abbrev pub popped : List Frame → Frame → Option Element → List Hint → Builder
-popped [] top root hints = record { first = false; outer = []; top = top; text = []; root = root; hints = hints }
-popped (document ∷ []) top root hints = record { first = false; outer = []; top = document; text = []; root = Some (element top); hints = hints }
-popped (parent ∷ o ∷ os) top root hints = record { first = false; outer = o ∷ os; top = with_child parent (child.Element (element top)); text = []; root = root; hints = hints }
+abbrev pub popped : List Frame → Frame → Option Element → List Hint → List Binding → Builder
+popped [] top root hints scope = record { first = false; outer = []; top = top; text = []; root = root; hints = hints; scope = scope }
+popped (document ∷ []) top root hints scope = record { first = false; outer = []; top = document; text = []; root = Some (element top); hints = hints; scope = scope }
+popped (parent ∷ o ∷ os) top root hints scope = record { first = false; outer = o ∷ os; top = with_child parent (child.Element (element top)); text = []; root = root; hints = hints; scope = drop top.declared scope }
 
 abbrev pub closed : Builder → Builder
-closed s = popped s.outer (texted s.top s.text) s.root s.hints
+closed s = popped s.outer (texted s.top s.text) s.root s.hints s.scope
 
 abbrev pub closed_if : Bool → Builder → Builder
 closed_if true s = closed s

@@ -1,5 +1,9 @@
 pub mod Bindings
 pub mod Bounds
+pub mod Named
+pub mod Places
+pub mod Numbers
+pub mod Scopes
 pub mod Kept
 pub mod Building
 pub mod Document

@@ -1,5 +1,5 @@
 -- What a token does, kind by kind.
-use Rattle.std.specs.Prelude.{◌≡◌, ℕ, Bool, not, ◌&&◌, if◌then◌else◌, nat_le, is_some, List, [], ◌∷◌, length, Option, Some, None, Result, Ok, Err, encode_utf8}
+use Rattle.std.specs.Prelude.{ℕ, Bool, ◌&&◌, if◌then◌else◌, nat_le, is_some, List, [], ◌∷◌, length, Option, Some, None, Result, Ok, Err, encode_utf8}
 use Rattle.xmp_values.specs.declared.rules.Rule.{Rule}
 use Rattle.xmp_values.specs.declared.rules.Rule.TheVariants.{Encoding, OutsideRoot, Mismatch, BadNamespace, UnboundPrefix, TwiceAttribute, TooDeep}
 use Rattle.xml_grammar.specs.declared.tags.QName.{QName}
@@ -13,7 +13,7 @@ use Rattle.xml_documents.specs.declared.builder.Builder.{Builder}
 use Rattle.xml_documents.specs.declared.tags.Tagged.{Tagged}
 use Rattle.xml_documents.specs.Building.{is_nil, passed, with_text, with_frame, closed, closed_if}
 use Rattle.xml_documents.specs.Document.{Fault, run_step}
-use Rattle.xml_documents.specs.Tagging.{tagged_by}
+use Rattle.xml_documents.specs.Tagging.{tagged}
 
 abbrev pub declaration_step : Builder → ℕ → Option (List ℕ) → Result Builder Fault
 declaration_step s at encoding = if is_foreign (Declaration encoding) then Err (Encoding, at) else Ok (passed s)
@@ -39,7 +39,7 @@ tag_rule outside rooted depth t =
     else None
 
 abbrev pub begun : Builder → Tagged → Builder
-begun s t = closed_if t.empty (with_frame s t.frame t.hints)
+begun s t = closed_if t.empty (with_frame s t.frame t.scope t.hints)
 
 abbrev pub begun_unless : Builder → ℕ → Tagged → Option Rule → Result Builder Fault
 begun_unless s at t None = Ok (begun s t)
@@ -49,7 +49,7 @@ abbrev pub tagged_step : Builder → ℕ → Tagged → Result Builder Fault
 tagged_step s at t = begun_unless s at t (tag_rule (is_nil s.outer) (is_some s.root) (length s.outer) t)
 
 abbrev pub start_step : Builder → ℕ → Tag → Result Builder Fault
-start_step s at tag = tagged_step s at (tagged_by s at tag)
+start_step s at tag = tagged_step s at (tagged s at tag)
 
 abbrev pub step_of : Builder → ℕ → Token → Result Builder Fault
 step_of s at (tokens.Declaration encoding) = declaration_step s at encoding

@@ -1,10 +1,11 @@
 //! The element tree, as far as it is read.
 
 ghost use Rattle.std.specs.Prelude.{◌≡◌, IfOk};
-ghost use Rattle.xml_documents.specs.Building.{start, document, element, flushed, passed, with_text, with_frame, closed, closed_if};
+ghost use Rattle.xml_grammar.specs.declared.elements.Child.TheVariants as child;
+ghost use Rattle.xml_documents.specs.Building.{start, document, bound_of, element, with_child, flushed, passed, with_text, unscoped, with_frame, popped, closed, closed_if};
 
 use crate::pending::Pending;
-use crate::scopes::Declared;
+use crate::scopes::Scope;
 use crate::stack::Stack;
 use std::alloc::Global;
 use xml_grammar::{Attributes, Child, Children, Element, QName};
@@ -18,7 +19,8 @@ pub struct Frame<'p> {
     pub spelled: QName<'p>,
     pub name: Name<'p>,
     pub attributes: Attributes<'p>,
-    pub declared: Declared<'p>,
+    /// How many declarations its tag has.
+    pub declared: usize,
     pub children: Children<'p>,
 }
 
@@ -33,6 +35,8 @@ pub struct Builder<'p> {
     pub root: Option<Element<'p>>,
     /// Each declaration of a prefix, in the order of the text.
     pub hints: Sequence<Hint>,
+    /// The declarations in force inside the root.
+    pub scope: Scope<'p>,
 }
 
 fn document_frame<'p>(alloc: Global) -> Frame<'p>
@@ -49,7 +53,7 @@ fn document_frame<'p>(alloc: Global) -> Frame<'p>
             local: Text::raw(b""),
         },
         attributes: Attributes::new(alloc),
-        declared: Declared::new(alloc),
+        declared: 0,
         children: Children::new(alloc),
     }
 }
@@ -65,6 +69,7 @@ pub fn new_builder<'p>(alloc: Global) -> Builder<'p>
         text: Pending::new(),
         root: None,
         hints: Sequence::new(alloc),
+        scope: Scope::new(alloc),
     }
 }
 
@@ -79,6 +84,7 @@ fn flush<'p>(builder: Builder<'p>) -> Result<Builder<'p>, Memory>
         text,
         root,
         hints,
+        scope,
     } = builder;
     if !text.is_empty() {
         top.children.push(Child::Text(text.into_text()))?;
@@ -90,6 +96,7 @@ fn flush<'p>(builder: Builder<'p>) -> Result<Builder<'p>, Memory>
         text: Pending::new(),
         root,
         hints,
+        scope,
     })
 }
 
@@ -104,6 +111,7 @@ pub fn pass<'p>(builder: Builder<'p>) -> Builder<'p>
         text,
         root,
         hints,
+        scope,
     } = builder;
     Builder {
         first: false,
@@ -112,6 +120,7 @@ pub fn pass<'p>(builder: Builder<'p>) -> Builder<'p>
         text,
         root,
         hints,
+        scope,
     }
 }
 
@@ -133,6 +142,7 @@ pub fn add_text<'p>(
         text,
         root,
         hints,
+        scope,
     } = builder;
     Ok(Builder {
         first: false,
@@ -141,16 +151,52 @@ pub fn add_text<'p>(
         text: text.with(alloc, more)?,
         root,
         hints,
+        scope,
     })
 }
 
-/// An element begins.
+/// The builder without its scope, and the declarations in force for a tag.
+pub fn split_scope<'p>(
+    alloc: Global,
+    builder: Builder<'p>,
+) -> Result<(Builder<'p>, Scope<'p>), Memory>
+    ensures builder { IfOk result (λ x. x.0 ≡ unscoped builder.entry) }
+    ensures scope { IfOk result (λ x. x.1 ≡ bound_of builder.entry.outer builder.entry.scope) }
+{
+    let Builder {
+        first,
+        outer,
+        top,
+        text,
+        root,
+        hints,
+        scope,
+    } = builder;
+    let around = if outer.is_empty() {
+        Scope::predeclared(alloc)?
+    } else {
+        scope
+    };
+    let rest = Builder {
+        first,
+        outer,
+        top,
+        text,
+        root,
+        hints,
+        scope: Scope::new(alloc),
+    };
+    Ok((rest, around))
+}
+
+/// An element begins, with the declarations in force inside it.
 pub fn begin<'p>(
     builder: Builder<'p>,
     frame: Frame<'p>,
+    inside: Scope<'p>,
     declared: Sequence<Hint>,
 ) -> Result<Builder<'p>, Memory>
-    ensures { IfOk result (λ b. b ≡ with_frame builder.entry frame.entry declared) }
+    ensures { IfOk result (λ b. b ≡ with_frame builder.entry frame.entry inside.entry declared) }
 {
     let Builder {
         first: _,
@@ -159,6 +205,7 @@ pub fn begin<'p>(
         text,
         root,
         mut hints,
+        scope: _,
     } = flush(builder)?;
     outer.push(top)?;
     hints.append(declared)?;
@@ -169,6 +216,7 @@ pub fn begin<'p>(
         text,
         root,
         hints,
+        scope: inside,
     })
 }
 
@@ -191,52 +239,84 @@ fn element_of<'p>(frame: Frame<'p>) -> Element<'p>
     }
 }
 
-/// The innermost element ends.
-pub fn end<'p>(builder: Builder<'p>) -> Result<Builder<'p>, Memory>
-    ensures { IfOk result (λ b. b ≡ closed builder.entry) }
+/// An element with one more inside it.
+fn with_element<'p>(parent: Frame<'p>, element: Element<'p>) -> Result<Frame<'p>, Memory>
+    ensures { IfOk result (λ f. f ≡ with_child parent.entry (child.Element element.entry)) }
 {
-    let Builder {
-        first: _,
-        mut outer,
-        top,
-        text,
-        root,
-        hints,
-    } = flush(builder)?;
-    match outer.pop() {
+    let mut more = parent;
+    more.children.push(Child::Element(element))?;
+    Ok(more)
+}
+
+/// The innermost element is a child of the next, or the root.
+fn popped<'p>(
+    alloc: Global,
+    outer: Stack<Frame<'p>>,
+    top: Frame<'p>,
+    root: Option<Element<'p>>,
+    hints: Sequence<Hint>,
+    scope: Scope<'p>,
+) -> Result<Builder<'p>, Memory>
+    ensures { IfOk result (λ b. b ≡ popped outer.entry top.entry root.entry hints scope.entry) }
+{
+    let mut rest = outer;
+    match rest.pop() {
         None => Ok(Builder {
             first: false,
-            outer,
+            outer: rest,
             top,
-            text,
+            text: Pending::new(),
             root,
             hints,
+            scope,
         }),
-        Some(document) if outer.is_empty() => Ok(Builder {
+        Some(document) if rest.is_empty() => Ok(Builder {
             first: false,
-            outer,
+            outer: rest,
             top: document,
-            text,
+            text: Pending::new(),
             root: Some(element_of(top)),
             hints,
+            scope,
         }),
-        Some(mut parent) => {
-            parent.children.push(Child::Element(element_of(top)))?;
+        Some(parent) => {
+            let around = scope.left(alloc, top.declared)?;
             Ok(Builder {
                 first: false,
-                outer,
-                top: parent,
-                text,
+                outer: rest,
+                top: with_element(parent, element_of(top))?,
+                text: Pending::new(),
                 root,
                 hints,
+                scope: around,
             })
         }
     }
 }
 
+/// The innermost element ends.
+pub fn end<'p>(alloc: Global, builder: Builder<'p>) -> Result<Builder<'p>, Memory>
+    ensures { IfOk result (λ b. b ≡ closed builder.entry) }
+{
+    let Builder {
+        first: _,
+        outer,
+        top,
+        text: _,
+        root,
+        hints,
+        scope,
+    } = flush(builder)?;
+    popped(alloc, outer, top, root, hints, scope)
+}
+
 /// An empty element ends where it begins.
-pub fn end_if<'p>(empty: bool, builder: Builder<'p>) -> Result<Builder<'p>, Memory>
+pub fn end_if<'p>(alloc: Global, empty: bool, builder: Builder<'p>) -> Result<Builder<'p>, Memory>
     ensures { IfOk result (λ b. b ≡ closed_if empty builder.entry) }
 {
-    if empty { end(builder) } else { Ok(builder) }
+    if empty {
+        end(alloc, builder)
+    } else {
+        Ok(builder)
+    }
 }

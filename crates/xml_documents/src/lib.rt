@@ -7,8 +7,12 @@
 
 mod builder;
 mod contents;
+mod declarations;
 mod hints;
+mod named;
+mod numbers;
 mod pending;
+mod places;
 mod reading;
 mod scopes;
 mod stack;
@@ -18,9 +22,10 @@ mod tags;
 
 pub use builder::{Builder, Frame};
 pub use contents::Doc;
+pub use declarations::{Bound, Declared};
 pub use pending::Pending;
 pub use reading::read;
-pub use scopes::Declared;
+pub use scopes::Scope;
 pub use stack::Stack;
 pub use stops::XmlStop;
 pub use tags::{Parts, Tagged};

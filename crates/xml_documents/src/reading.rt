@@ -119,6 +119,7 @@ fn finish<'p>(
         text: _,
         root,
         hints,
+        scope: _,
     } = builder;
     if !outer.is_empty() {
         return Err(XmlStop::Fault(Rule::Unfinished, at));

@@ -1,6 +1,6 @@
 //! A stack.
 
-ghost use Rattle.std.specs.Prelude.{◌≡◌, [], ◌∷◌, length, slice_get, MatchOption, OnOk, OnErr};
+ghost use Rattle.std.specs.Prelude.{◌≡◌, [], ◌∷◌, length, reverse, slice_get, MatchOption, OnOk, OnErr};
 ghost use Rattle.std.specs.Option.{option_copied};
 
 use std::alloc::Global;
@@ -48,14 +48,11 @@ impl<T: Drop> Stack<T> {
         self.items.len() == 0
     }
 
-    /// The item at a depth, of which the top is 0.
-    pub fn get(&self, depth: usize) -> Option<&T>
-        ensures { option_copied result ≡ slice_get self.now depth }
+    /// The item at a height, of which the bottom is 0.
+    pub fn get(&self, height: usize) -> Option<&T>
+        ensures { option_copied result ≡ slice_get (reverse self.now) height }
     {
-        if depth >= self.items.len() {
-            return None;
-        }
-        self.items.get(self.items.len() - 1 - depth)
+        self.items.get(height)
     }
 
     pub fn push(&mut self, item: T) -> Result<(), Memory>

@@ -4,16 +4,15 @@ ghost use Rattle.std.specs.Prelude.{◌≡◌, ◌≤◌, ◌<◌, ◌+◌, ◌^
 ghost use Rattle.std.specs.List.{prefix_len};
 ghost use Rattle.xmp_values.specs.Characters as characters;
 ghost use Rattle.xml_grammar.specs.Pieces.{Declaration};
-ghost use Rattle.xml_grammar.specs.Scopes.{same_qname};
+ghost use Rattle.xml_grammar.specs.Scopes.{same_prefix, same_qname};
 ghost use Rattle.xml_grammar.specs.Nesting.{is_foreign};
 ghost use Rattle.xml_documents.specs.Answering.{Gives};
 ghost use Rattle.xml_documents.specs.Building.{is_nil};
 ghost use Rattle.xml_documents.specs.Document.{run_step};
 ghost use Rattle.xml_documents.specs.Steps.{declaration_step, text_step, end_step, tag_rule, begun, tagged_step, start_step, step_of, with_run};
 
-use crate::builder::{Builder, add_text, begin, end, end_if, pass};
+use crate::builder::{Builder, add_text, begin, end, end_if, pass, split_scope};
 use crate::pending::char_text;
-use crate::scopes::same_prefix;
 use crate::stops::XmlStop;
 use crate::tags::{Tagged, read_tag};
 use std::alloc::Global;
@@ -73,13 +72,29 @@ fn reference_step<'p>(
     text_step(alloc, builder, at, text)
 }
 
+/// Whether two prefixes are the same.
+fn same_prefix(one: &Option<Text<'_>>, other: &Option<Text<'_>>) -> bool
+    ensures { result ≡ same_prefix one.now other.now }
+{
+    match (one, other) {
+        (None, None) => true,
+        (Some(p), Some(q)) => p.bytes() == q.bytes(),
+        _ => false,
+    }
+}
+
 fn same_qname(one: &QName<'_>, other: &QName<'_>) -> bool
     ensures { result ≡ same_qname one.now other.now }
 {
     same_prefix(&one.prefix, &other.prefix) && one.local.bytes() == other.local.bytes()
 }
 
-fn end_step<'p>(builder: Builder<'p>, at: u64, name: &QName<'p>) -> Result<Builder<'p>, XmlStop>
+fn end_step<'p>(
+    alloc: Global,
+    builder: Builder<'p>,
+    at: u64,
+    name: &QName<'p>,
+) -> Result<Builder<'p>, XmlStop>
     ensures { Gives result (end_step builder.entry at name.now) }
 {
     if builder.outer.is_empty() {
@@ -88,7 +103,7 @@ fn end_step<'p>(builder: Builder<'p>, at: u64, name: &QName<'p>) -> Result<Build
     if !same_qname(&builder.top.spelled, name) {
         return Err(XmlStop::Fault(Rule::Mismatch, at));
     }
-    Ok(end(builder)?)
+    Ok(end(alloc, builder)?)
 }
 
 /// The least rule that a tag breaks.
@@ -110,22 +125,24 @@ fn tag_rule(builder: &Builder<'_>, tagged: &Tagged<'_>) -> Option<Rule>
     }
 }
 
-fn begun<'p>(builder: Builder<'p>, tagged: Tagged<'p>) -> Result<Builder<'p>, Memory>
+fn begun<'p>(alloc: Global, builder: Builder<'p>, tagged: Tagged<'p>) -> Result<Builder<'p>, Memory>
     ensures { IfOk result (λ b. b ≡ begun builder.entry tagged.entry) }
 {
     let Tagged {
         frame,
+        scope,
         hints,
         misbound: _,
         unbound: _,
         twice: _,
         empty,
     } = tagged;
-    let opened = begin(builder, frame, hints)?;
-    end_if(empty, opened)
+    let opened = begin(builder, frame, scope, hints)?;
+    end_if(alloc, empty, opened)
 }
 
 fn tagged_step<'p>(
+    alloc: Global,
     builder: Builder<'p>,
     at: u64,
     tagged: Tagged<'p>,
@@ -135,7 +152,7 @@ fn tagged_step<'p>(
     if let Some(rule) = tag_rule(&builder, &tagged) {
         return Err(XmlStop::Fault(rule, at));
     }
-    Ok(begun(builder, tagged)?)
+    Ok(begun(alloc, builder, tagged)?)
 }
 
 fn start_step<'p>(
@@ -146,8 +163,9 @@ fn start_step<'p>(
 ) -> Result<Builder<'p>, XmlStop>
     ensures { Gives result (start_step builder.entry at tag.entry) }
 {
-    let tagged = read_tag(alloc, &builder, at, tag)?;
-    tagged_step(builder, at, tagged)
+    let (builder, scope) = split_scope(alloc, builder)?;
+    let tagged = read_tag(alloc, scope, at, tag)?;
+    tagged_step(alloc, builder, at, tagged)
 }
 
 fn is_blank_byte(b: u8) -> bool
@@ -198,7 +216,7 @@ pub fn token_step<'p>(
         Token::Comment => Ok(pass(builder)),
         Token::Cdata(text) => text_step(alloc, builder, at, text),
         Token::Start(tag) => start_step(alloc, builder, at, tag),
-        Token::End(name) => end_step(builder, at, &name),
+        Token::End(name) => end_step(alloc, builder, at, &name),
         Token::Reference(c) => reference_step(alloc, builder, at, c),
         Token::LineEnd => Ok(add_text(alloc, builder, Text::raw(b"\n".as_slice()))?),
         Token::Run(_) => run_step(alloc, builder, at, bytes),

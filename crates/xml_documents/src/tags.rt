@@ -1,33 +1,31 @@
 //! A tag with its declarations apart and its names expanded.
 
-ghost use Rattle.std.specs.Prelude.{◌≡◌, ◌++◌, ◌||◌, map, ◌↔◌, ◌≢◌, IsTrue, AllPairs, IfOk};
+ghost use Rattle.std.specs.Prelude.{◌≡◌, ◌++◌, ◌||◌, map, IfOk};
 ghost use Rattle.std.specs.List.{list_any};
-ghost use Rattle.std.specs.Option.{option_copied};
-ghost use Rattle.xml_grammar.specs.declared.elements.Attribute.{Attribute};
-ghost use Rattle.xml_grammar.specs.Scopes.{bound_to};
+ghost use Rattle.xml_grammar.specs.Scopes.{bindings_of, bound_to, or_nothing, attribute_space, expanded, is_unbound};
 ghost use Rattle.xml_grammar.specs.Nesting.{has_twice};
-ghost use Rattle.xml_documents.specs.Tagging.{with_declaration, with_plain, with_attribute, divided, declared_rest, outer_found, in_force, lacks, space_by, attribute_space_by, expanded_by, lacks_one, same_attribute, tagged_by};
+ghost use Rattle.xml_documents.specs.Tagging.{with_declaration, with_plain, with_attribute, divided, lacks_one, same_attribute, frame_in, tagged_with};
 
-use crate::builder::{Builder, Frame};
-use crate::scopes::Declared;
-use crate::stack::Stack;
+use crate::builder::Frame;
+use crate::declarations::Declared;
+use crate::scopes::Scope;
 use std::alloc::Global;
 use xml_grammar::{Attribute, Attributes, Children, QName, RawAttribute, Tag};
-use xmp_values::{Hint, Memory, Name, NameSet, Sequence, Text};
+use xmp_values::{Hint, Memory, Name, Sequence, Text};
 
 /// The attributes of a tag, with the declarations apart.
 #[derive(Drop)]
 pub struct Parts<'p> {
     pub declared: Declared<'p>,
     pub plain: Sequence<RawAttribute<'p>>,
-    /// A prefix is declared twice.
-    pub twice: bool,
 }
 
 /// A tag with its names expanded, and what is wrong with it.
 #[derive(Drop)]
 pub struct Tagged<'p> {
     pub frame: Frame<'p>,
+    /// The declarations in force inside the element.
+    pub scope: Scope<'p>,
     pub hints: Sequence<Hint>,
     /// A declaration isn't allowed.
     pub misbound: bool,
@@ -45,16 +43,10 @@ fn with_declaration<'p>(
 ) -> Result<Parts<'p>, Memory>
     ensures { IfOk result (λ x. x ≡ with_declaration parts.entry prefix.entry space.entry) }
 {
-    let Parts {
-        declared,
-        plain,
-        twice,
-    } = parts;
-    let again = declared.bound_to(&prefix).is_some();
+    let Parts { declared, plain } = parts;
     Ok(Parts {
         declared: declared.with(prefix, space)?,
         plain,
-        twice: again || twice,
     })
 }
 
@@ -64,14 +56,9 @@ fn with_plain<'p>(parts: Parts<'p>, attribute: RawAttribute<'p>) -> Result<Parts
     let Parts {
         declared,
         mut plain,
-        twice,
     } = parts;
     plain.push(attribute)?;
-    Ok(Parts {
-        declared,
-        plain,
-        twice,
-    })
+    Ok(Parts { declared, plain })
 }
 
 /// One attribute more.
@@ -110,7 +97,6 @@ fn divided<'p>(alloc: Global, attributes: Sequence<RawAttribute<'p>>) -> Result<
     let mut parts = Parts {
         declared: Declared::new(alloc),
         plain: Sequence::new(alloc),
-        twice: false,
     };
     for attribute in attributes.into_vec() {
         parts = with_attribute(parts, attribute)?;
@@ -118,114 +104,53 @@ fn divided<'p>(alloc: Global, attributes: Sequence<RawAttribute<'p>>) -> Result<
     Ok(parts)
 }
 
-/// What the elements around the innermost one declare for a prefix.
-fn rest_space<'a, 'p>(
-    outer: &'a Stack<Frame<'p>>,
-    prefix: &Option<Text<'_>>,
-) -> Option<&'a Text<'p>>
-    ensures { option_copied result ≡ bound_to (declared_rest outer.now) prefix.now }
-{
-    for i in 1..outer.len() {
-        let Some(frame) = outer.get(i - 1) else {
-            return None;
-        };
-        let found = frame.declared.bound_to(prefix);
-        if found.is_some() {
-            return found;
-        }
-    }
-    None
-}
-
-/// What the open elements declare for a prefix.
-fn outer_space<'a, 'p>(
-    top: &'a Frame<'p>,
-    outer: &'a Stack<Frame<'p>>,
-    prefix: &Option<Text<'_>>,
-) -> Option<&'a Text<'p>>
-    ensures { option_copied result ≡ outer_found top.now.declared outer.now prefix.now }
-{
-    if outer.is_empty() {
-        return None;
-    }
-    match top.declared.bound_to(prefix) {
-        Some(space) => Some(space),
-        None => rest_space(outer, prefix),
-    }
-}
-
-/// What is declared for a prefix in a tag or around it.
-fn in_force<'a, 'p>(
-    own: &'a Declared<'p>,
-    builder: &'a Builder<'p>,
-    prefix: &Option<Text<'_>>,
-) -> Option<&'a Text<'p>>
-    ensures { option_copied result ≡ in_force own.now builder.now prefix.now }
-{
-    match own.bound_to(prefix) {
-        Some(space) => Some(space),
-        None => outer_space(&builder.top, &builder.outer, prefix),
-    }
-}
-
 /// Whether a prefix isn't bound.
-fn lacks<'p>(own: &Declared<'p>, builder: &Builder<'p>, prefix: &Option<Text<'_>>) -> bool
-    ensures { result ≡ lacks (in_force own.now builder.now prefix.now) prefix.now }
+fn lacks(scope: &Scope<'_>, prefix: &Option<Text<'_>>) -> bool
+    ensures { result ≡ is_unbound scope.now prefix.now }
 {
     match prefix {
         None => false,
-        Some(name) => {
-            in_force(own, builder, prefix).is_none() && b"xml".as_slice() != name.bytes()
-        }
+        Some(_) => scope.bound_to(prefix).is_none(),
     }
 }
 
 /// The namespace of a prefix.
-#[tactic(auto, unfolding(xml_grammar::specs::Scopes::xml_space))]
 fn space_of<'p>(
     alloc: Global,
-    own: &Declared<'p>,
-    builder: &Builder<'p>,
+    scope: &Scope<'p>,
     prefix: &Option<Text<'_>>,
 ) -> Result<Text<'p>, Memory>
-    ensures { IfOk result (λ t. t ≡ space_by (in_force own.now builder.now prefix.now) prefix.now) }
+    ensures { IfOk result (λ t. t ≡ or_nothing (bound_to scope.now prefix.now)) }
 {
-    if let Some(space) = in_force(own, builder, prefix) {
-        return space.again(alloc);
-    }
-    match prefix {
-        Some(name) if b"xml".as_slice() == name.bytes() => Ok(Text::raw(
-            b"http://www.w3.org/XML/1998/namespace".as_slice(),
-        )),
-        _ => Ok(Text::raw(b"".as_slice())),
-    }
+    let Some(space) = scope.bound_to(prefix) else {
+        return Ok(Text::raw(b"".as_slice()));
+    };
+    space.again(alloc)
 }
 
 fn attribute_space<'p>(
     alloc: Global,
-    own: &Declared<'p>,
-    builder: &Builder<'p>,
+    scope: &Scope<'p>,
     prefix: &Option<Text<'_>>,
 ) -> Result<Text<'p>, Memory>
-    ensures { IfOk result (λ t. t ≡ attribute_space_by (in_force own.now builder.now prefix.now) prefix.now) }
+    ensures { IfOk result (λ t. t ≡ attribute_space scope.now prefix.now) }
 {
     match prefix {
         None => Ok(Text::raw(b"".as_slice())),
-        Some(_) => space_of(alloc, own, builder, prefix),
+        Some(_) => space_of(alloc, scope, prefix),
     }
 }
 
 fn expanded_one<'p>(
     alloc: Global,
-    own: &Declared<'p>,
-    builder: &Builder<'p>,
+    scope: &Scope<'p>,
     attribute: RawAttribute<'p>,
 ) -> Result<Attribute<'p>, Memory>
-    ensures { IfOk result (λ a. a ≡ expanded_by own.now builder.now attribute.entry) }
+    ensures { IfOk result (λ a. a ≡ expanded scope.now attribute.entry) }
 {
     let RawAttribute { name, value } = attribute;
     let QName { prefix, local } = name;
-    let space = attribute_space(alloc, own, builder, &prefix)?;
+    let space = attribute_space(alloc, scope, &prefix)?;
     Ok(Attribute {
         name: Name { space, local },
         value,
@@ -233,93 +158,103 @@ fn expanded_one<'p>(
 }
 
 /// The attributes with their names expanded.
-fn expanded<'p>(
+fn expanded_all<'p>(
     alloc: Global,
-    own: &Declared<'p>,
-    builder: &Builder<'p>,
+    scope: &Scope<'p>,
     plain: Sequence<RawAttribute<'p>>,
 ) -> Result<Attributes<'p>, Memory>
-    ensures { IfOk result (λ all. all ≡ map (expanded_by own.now builder.now) plain.entry) }
+    ensures { IfOk result (λ all. all ≡ map (expanded scope.now) plain.entry) }
 {
     let mut attributes = Attributes::new(alloc);
     for attribute in plain.into_vec() {
-        attributes.push(expanded_one(alloc, own, builder, attribute)?)?;
+        attributes.push(expanded_one(alloc, scope, attribute)?)?;
     }
     Ok(attributes)
 }
 
 /// Whether the prefix of an attribute isn't bound.
-fn any_lacks<'p>(own: &Declared<'p>, builder: &Builder<'p>, plain: &[RawAttribute<'_>]) -> bool
-    ensures { result ≡ list_any (lacks_one own.now builder.now) plain.now }
+fn any_lacks(scope: &Scope<'_>, plain: &[RawAttribute<'_>]) -> bool
+    ensures { result ≡ list_any (lacks_one scope.now) plain.now }
 {
     for attribute in plain {
-        if lacks(own, builder, &attribute.name.prefix) {
+        if lacks(scope, &attribute.name.prefix) {
             return true;
         }
     }
     false
 }
 
-/// Whether no two attributes have the same name.
-fn are_apart(alloc: Global, attributes: &[Attribute<'_>]) -> Result<bool, Memory>
-    ensures { IfOk result (λ apart. IsTrue apart ↔ AllPairs (λ (a b : Attribute). a.name ≢ b.name) attributes.now) }
+/// Whether a prefix of the tag's name or of an attribute isn't bound.
+fn is_unbound(scope: &Scope<'_>, name: &QName<'_>, plain: &[RawAttribute<'_>]) -> bool
+    ensures { result ≡ (is_unbound scope.now name.now.prefix || list_any (lacks_one scope.now) plain.now) }
 {
-    let mut seen = NameSet::new(alloc);
-    for item in attributes {
-        if !seen.insert(item.name.space.bytes(), item.name.local.bytes())? {
-            return Ok(false);
-        }
-    }
-    Ok(true)
+    lacks(scope, &name.prefix) || any_lacks(scope, plain)
 }
 
-fn is_twice(alloc: Global, declared: bool, attributes: &[Attribute<'_>]) -> Result<bool, Memory>
-    ensures { IfOk result (λ twice. twice ≡ (declared || has_twice same_attribute attributes.now)) }
+/// Whether a prefix is declared twice, or two attributes have the same name.
+fn is_twice(
+    alloc: Global,
+    scope: &Scope<'_>,
+    again: bool,
+    plain: &[RawAttribute<'_>],
+) -> Result<bool, Memory>
+    ensures { IfOk result (λ twice. twice ≡ (again || has_twice same_attribute (map (expanded scope.now) plain.now))) }
 {
-    if declared {
+    if again {
         return Ok(true);
     }
-    Ok(!are_apart(alloc, attributes)?)
+    Ok(!scope.are_apart(alloc, plain)?)
 }
 
-/// A tag with its names expanded, and what is wrong with it.
+/// The frame of an element, with its names expanded.
+fn frame_in<'p>(
+    alloc: Global,
+    scope: &Scope<'p>,
+    at: u64,
+    name: QName<'p>,
+    plain: Sequence<RawAttribute<'p>>,
+    declared: usize,
+) -> Result<Frame<'p>, Memory>
+    ensures { IfOk result (λ f. f ≡ frame_in scope.now at name.entry plain.entry declared) }
+{
+    Ok(Frame {
+        at,
+        name: Name {
+            space: space_of(alloc, scope, &name.prefix)?,
+            local: name.local.again(alloc)?,
+        },
+        spelled: name,
+        attributes: expanded_all(alloc, scope, plain)?,
+        declared,
+        children: Children::new(alloc),
+    })
+}
+
+/// A tag with its names expanded, and what is wrong with it; `around` is in force for the tag.
 pub fn read_tag<'p>(
     alloc: Global,
-    builder: &Builder<'p>,
+    around: Scope<'p>,
     at: u64,
     tag: Tag<'p>,
 ) -> Result<Tagged<'p>, Memory>
-    ensures { IfOk result (λ t. t ≡ tagged_by builder.now at tag.entry) }
+    ensures { IfOk result (λ t. t ≡ tagged_with (bindings_of tag.entry.attributes ++ around.entry) at tag.entry) }
 {
     let Tag {
         name,
         attributes,
         empty,
     } = tag;
-    let Parts {
-        declared,
-        plain,
-        twice,
-    } = divided(alloc, attributes)?;
-    let unbound = lacks(&declared, builder, &name.prefix)
-        || any_lacks(&declared, builder, plain.as_slice());
+    let Parts { declared, plain } = divided(alloc, attributes)?;
     let hints = declared.hints(alloc)?;
     let misbound = declared.has_misbound();
-    let attributes = expanded(alloc, &declared, builder, plain)?;
-    let twice = is_twice(alloc, twice, attributes.as_slice())?;
-    let name_of = Name {
-        space: space_of(alloc, &declared, builder, &name.prefix)?,
-        local: name.local.again(alloc)?,
-    };
+    let count = declared.len();
+    let (scope, again) = around.entered(alloc, declared)?;
+    let unbound = is_unbound(&scope, &name, plain.as_slice());
+    let twice = is_twice(alloc, &scope, again, plain.as_slice())?;
+    let frame = frame_in(alloc, &scope, at, name, plain, count)?;
     Ok(Tagged {
-        frame: Frame {
-            at,
-            spelled: name,
-            name: name_of,
-            attributes,
-            declared,
-            children: Children::new(alloc),
-        },
+        frame,
+        scope,
         hints,
         misbound,
         unbound,

@@ -1,6 +1,5 @@
 use Rattle.std.proofs.Common.{sym, subst}
 use Rattle.std.specs.Str.{chars}
-use Rattle.xml_documents.specs.declared.stops.XmlStop.{XmlStop}
 use Rattle.xml_documents.specs.Reading.{Stops}
 use Rattle.xml_documents.proofs.Advancing.{no_token, some_chars}
 use Rattle.xml_documents.proofs.reading.advance.Goals as goal

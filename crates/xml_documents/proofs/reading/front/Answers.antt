@@ -1,4 +1,4 @@
-use Rattle.std.proofs.Common.{◌≡◌, ◌∙◌, ◌++◌, ap, sym, List, ℕ}
+use Rattle.std.proofs.Common.{◌∙◌, ◌++◌, ap, sym, List, ℕ}
 use Rattle.xml_documents.proofs.Advancing.{seam, fronted}
 use Rattle.xml_documents.proofs.reading.front.Goals as goal
 

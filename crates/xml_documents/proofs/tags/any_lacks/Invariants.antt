@@ -4,4 +4,4 @@ use Rattle.xml_documents.specs.Tagging.{lacks_one}
 use Rattle.xml_documents.proofs.tags.any_lacks.Given as goal
 
 abbrev pub invariant-loop-attribute : goal.invariant-loop-attribute
-invariant-loop-attribute l = list_any (lacks_one l.own l.builder) (drop l.attribute-index l.plain) ≡ list_any (lacks_one l.own l.builder) l.plain
+invariant-loop-attribute l = list_any (lacks_one l.scope) (drop l.attribute-index l.plain) ≡ list_any (lacks_one l.scope) l.plain

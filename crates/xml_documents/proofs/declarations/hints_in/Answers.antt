@@ -4,7 +4,7 @@ use Rattle.xmp_values.specs.declared.hints.Hint.{Hint}
 use Rattle.xml_grammar.specs.Trees.{hint_of}
 use Rattle.xml_documents.specs.Bounds.{bindings_in}
 use Rattle.xml_documents.proofs.Scans.{hints_next}
-use Rattle.xml_documents.proofs.scopes.hints_in.Goals as goal
+use Rattle.xml_documents.proofs.declarations.hints_in.Goals as goal
 
 pub loop-bound-preserved : goal.loop-bound-preserved
 loop-bound-preserved c =

@@ -1,10 +1,10 @@
 use Rattle.std.proofs.Common.{◌≡◌, Bool, false, true, sym, ap, ◌∙◌, List, ℕ}
 use Rattle.std.specs.List.{list_any}
 use Rattle.xml_grammar.specs.Scopes.{is_misbound, is_misbound_to}
-use Rattle.xml_documents.specs.declared.scopes.Bound.{Bound}
+use Rattle.xml_documents.specs.declared.declarations.Bound.{Bound}
 use Rattle.xml_documents.specs.Bounds.{binding_in, bindings_in}
 use Rattle.xml_documents.proofs.Scans.{any_next, any_here, any_not, any_binding}
-use Rattle.xml_documents.proofs.scopes.any_misbound.Goals as goal
+use Rattle.xml_documents.proofs.declarations.any_misbound.Goals as goal
 
 abbrev test : Bound → Bool
 test b = is_misbound (binding_in b)
