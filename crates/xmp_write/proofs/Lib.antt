@@ -7,3 +7,4 @@ pub mod GivingSteps
 pub mod PlaceMaps
 pub mod LineLevels
 pub mod WritingSteps
+pub mod ValidHints

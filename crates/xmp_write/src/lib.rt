@@ -13,7 +13,11 @@ mod packets;
 mod prefixes;
 #[cfg(test)]
 mod tests;
+#[cfg(test)]
+mod tree_tests;
 mod uses;
+#[cfg(test)]
+mod valid_hints;
 
 pub use forms::Form;
 pub use listing::lines;

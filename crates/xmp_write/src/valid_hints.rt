@@ -1,0 +1,60 @@
+//! Hints that are made by a test, for the tests.
+ghost use Rattle.std.specs.Prelude.{◌≡◌, ◌≢◌, ◌++◌, ◌∷◌, [], All, IsTrue, false};
+ghost use Rattle.std.specs.Option.{option_copied, option_map_or};
+ghost use Rattle.std.specs.Str.{bytes_eq};
+ghost use Rattle.xmp_values.specs.Hints.{IsValidHint, AreValid};
+
+use xmp_values::{Hint, Hints, Memory, is_char_text, is_name};
+
+/// Whether there is a hint, of the namespace.
+fn is_of(hint: Option<&Hint>, space: &[u8]) -> bool
+    ensures { result ≡ option_map_or (λ h. bytes_eq h.space space.now) (option_copied hint.entry) false }
+{
+    match hint {
+        Some(hint) => hint.space.as_slice() == space,
+        None => false,
+    }
+}
+
+/// Whether no hint is of the namespace.
+fn is_new(hints: &Hints, space: &[u8]) -> bool
+    ensures new { IsTrue result → All (λ h. h.space ≢ space.now) hints.now }
+    ensures valid { AreValid hints.now }
+{
+    for at in 0..hints.len() {
+        if is_of(hints.get(at), space) {
+            return false;
+        }
+    }
+    true
+}
+
+/// Whether the hint is valid by itself.
+#[tactic(auto, unfolding(xmp_values::specs::Spaces::xmlns_space))]
+fn is_valid(hint: &Hint) -> bool
+    ensures { IsTrue result → IsValidHint hint.now }
+{
+    let space = hint.space.as_slice();
+    if space.is_empty() || space == b"http://www.w3.org/2000/xmlns/".as_slice() {
+        return false;
+    }
+    is_char_text(space) && is_name(hint.prefix.as_slice())
+}
+
+/// Whether the hints stay valid with one more.
+fn are_valid_with(hints: &Hints, hint: &Hint) -> bool
+    ensures { IsTrue result → AreValid (hints.now ++ hint.now ∷ []) }
+{
+    if !is_valid(hint) {
+        return false;
+    }
+    is_new(hints, hint.space.as_slice())
+}
+
+/// Puts a hint at the end, if the list stays valid.
+pub fn push_if_valid(hints: &mut Hints, hint: Hint) -> Result<(), Memory> {
+    if are_valid_with(hints, &hint) {
+        hints.push(hint)?;
+    }
+    Ok(())
+}
