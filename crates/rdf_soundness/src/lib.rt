@@ -6,4 +6,4 @@
 
 mod laws;
 
-pub use laws::formed_properties;
+pub use laws::{formed_properties, formed_tree};
