@@ -20,15 +20,9 @@ mod steps;
 mod stops;
 mod tags;
 
-pub use builder::{Builder, Frame};
 pub use contents::Doc;
-pub use declarations::{Bound, Declared};
-pub use pending::Pending;
 pub use reading::read;
-pub use scopes::Scope;
-pub use stack::Stack;
 pub use stops::XmlStop;
-pub use tags::{Parts, Tagged};
 
 #[cfg(test)]
 mod tests;

@@ -19,7 +19,7 @@ fn has_fault(alloc: Global, text: &[u8], rule: Rule, at: u64) -> bool {
     fault_of(alloc, text) == Some((rule, at))
 }
 
-const FAULTS: [(&str, Rule, u64); 13] = [
+const FAULTS: [(&str, Rule, u64); 20] = [
     ("<a><b></a>", Rule::Mismatch, 6),
     ("<a>]]></a>", Rule::BadChar, 3),
     ("<a b=\"1\" b=\"2\"/>", Rule::TwiceAttribute, 0),
@@ -41,6 +41,13 @@ const FAULTS: [(&str, Rule, u64); 13] = [
         0,
     ),
     ("<a xmlns:p='u' xmlns:p='v'/>", Rule::TwiceAttribute, 0),
+    ("<!DOCTYPE a><a/>", Rule::Doctype, 0),
+    ("<a><b c></b></a>", Rule::BadTag, 3),
+    ("<a><!-- -- --></a>", Rule::BadComment, 3),
+    ("<a><?XML b?></a>", Rule::BadInstruction, 3),
+    ("<a><![CDATA[</a>", Rule::BadCdata, 3),
+    ("<a></a></a>", Rule::OutsideRoot, 7),
+    ("<a><b xmlns:p='v'/><p:c/></a>", Rule::UnboundPrefix, 19),
 ];
 
 #[test]
@@ -120,4 +127,24 @@ fn has_tree(alloc: Global, text: &[u8]) -> bool {
 fn a_document_has_its_tree(rt: HostRuntime) {
     let text = b"<a xmlns='u' xmlns:p='v' p:b='1' c='2'>x&lt;<!-- -->y\r\n<p:d/><![CDATA[]]></a>";
     assert!(rt; has_tree(rt.alloc(), text));
+}
+
+/// Whether `a` and `d` are of `u`, and `b` between them of `v`.
+fn is_scoped(root: &Element<'_>) -> bool {
+    is_named(root, b"u", b"a")
+        && is_element(root.children.get(0), b"v", b"b", 17)
+        && is_element(root.children.get(1), b"u", b"d", 46)
+}
+
+fn has_scopes(alloc: Global, text: &[u8]) -> bool {
+    match read(alloc, text) {
+        Ok(doc) => is_scoped(doc.root()),
+        Err(_) => false,
+    }
+}
+
+#[test]
+fn a_prefix_is_bound_anew_inside_an_element(rt: HostRuntime) {
+    let text = b"<p:a xmlns:p='u'><p:b xmlns:p='v'><p:c/></p:b><p:d/></p:a>";
+    assert!(rt; has_scopes(rt.alloc(), text));
 }
