@@ -8,3 +8,4 @@ pub mod PlaceMaps
 pub mod LineLevels
 pub mod WritingSteps
 pub mod ValidHints
+pub mod FreeNumbers

@@ -1,9 +1,9 @@
-pub mod Texts
 pub mod Packets
 pub mod Written
 pub mod Prefixes
+pub mod Lines
+pub mod Texts
 pub mod Hinted
 pub mod Giving
 pub mod Places
-pub mod Lines
 pub mod Writing

@@ -8,6 +8,7 @@
 mod forms;
 mod giving;
 mod hinted;
+mod laws;
 mod listing;
 mod packets;
 mod prefixes;
@@ -20,6 +21,7 @@ mod uses;
 mod valid_hints;
 
 pub use forms::Form;
+pub use laws::the_least_free_number;
 pub use listing::lines;
 pub use packets::{Packet, PacketInfo};
 pub use prefixes::Prefixes;
