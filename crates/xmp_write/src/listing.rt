@@ -1,9 +1,9 @@
 //! The lines that show a tree: `PATH KIND REST`, each ended by LF.
-ghost use Rattle.std.specs.Prelude.{◌≡◌, ◌+◌, ◌++◌, ◌∷◌, [], ℕ, codes, length, decimal, IfOk, OnOk};
+ghost use Rattle.std.specs.Prelude.{◌≡◌, ◌++◌, codes, decimal, IfOk, OnOk};
 ghost use Rattle.std.specs.List.{flat_map};
 ghost use Rattle.xmp_tree.specs.declared.nested.Shape.{out-Shape};
 ghost use Rattle.xmp_write.specs.Writing.{Adds, items_from};
-ghost use Rattle.xmp_write.specs.Lines.{shown, shown_byte, spelled, shape_word, kind_word, value_lines, shape_lines, member_lines, item_path, qualifier_path, field_path, lines};
+ghost use Rattle.xmp_write.specs.Lines.{shown, shown_byte, spelled, shape_word, kind_word, value_lines, shape_lines, member_lines, item_path, lines};
 
 use crate::prefixes::Prefixes;
 use itoa::Buffer;

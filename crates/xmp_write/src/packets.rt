@@ -1,7 +1,7 @@
 //! A payload as a packet:
-//! `<?xpacket begin=..?>` | text | padding | `<?xpacket end="w"?>` | zero bytes.
-ghost use Rattle.std.specs.Prelude.{◌≡◌, ◌==◌, nat_eq, ◌≤◌, length};
-ghost use Rattle.std.specs.List.{suffix_len, starts_with, ends_with};
+//! `<?xpacket begin=..?>` | XMP | padding | `<?xpacket end="w"?>` | zero bytes, which are no text.
+ghost use Rattle.std.specs.Prelude.{◌≡◌, ◌==◌, ◌≤◌, length};
+ghost use Rattle.std.specs.List.{suffix_len};
 ghost use Rattle.xmp_values.specs.Characters.{is_blank};
 ghost use Rattle.xmp_write.specs.Packets.{without_end, packet_text, is_packet_for_writing, is_writable};
 
