@@ -1,11 +1,11 @@
 -- Characters that stand for themselves: a run, cut inside an element where `]]>` begins.
-use Rattle.std.proofs.Common.{◌≡◌, ℕ, Bool, true, false, cond, eqb, not, ◌&&◌, List, [], ◌∷◌, ◌++◌, length, take, drop, Option, Some, None, refl, sym, ap, subst, ◌∙◌}
+use Rattle.std.proofs.Common.{◌≡◌, ℕ, Bool, true, false, cond, eqb, not, ◌&&◌, List, [], ◌∷◌, ◌++◌, length, take, drop, Option, Some, None, refl, sym, ap, subst, ◌∙◌, arith}
 use Rattle.std.specs.Prelude.{IsTrue, is_some, codes, encode_utf8_all}
 use Rattle.std.specs.List.{list_all}
 use Rattle.std.specs.Str.{chars, all_scalars, IsUtf8, IsCharBoundary}
-use Rattle.std.proofs.lemmas.Bool.{eqb-true}
+use Rattle.std.proofs.lemmas.Bool.{eqb-true, ne_eqb}
 use Rattle.std.proofs.lemmas.List.{take_at, drop_at}
-use Rattle.std.proofs.lemmas.Str.{chars-encodes, encodes-chars, scalars-chars, encodes-append, IsCharBoundary-at_seam}
+use Rattle.std.proofs.lemmas.Str.{chars-encodes, encodes-chars, scalars-chars, encodes-append, IsCharBoundary-at_seam, length-le-encodes}
 use Rattle.xml_grammar.proofs.Splits.{both, all_cons}
 use Rattle.xmp_values.specs.Characters.{is_char}
 use Rattle.xml_tokenizer.specs.Classes.{is_plain}
@@ -30,6 +30,17 @@ plain_front_all inside (c ∷ cs) = by_start (starts_plain inside (c ∷ cs)) re
     by_start : (v : Bool) → starts_plain inside (c ∷ cs) ≡ v → IsTrue (list_all is_plain (plain_front inside cs)) → IsTrue (list_all is_plain (cond v (c ∷ plain_front inside cs) []))
     by_start true h ih = all_cons is_plain c (plain_front inside cs) (both (is_plain c) (not (inside && begins (codes "]]>") (c ∷ cs))) h).0 ih
     by_start false h ih = refl
+
+-- the run is empty where the first character doesn't stand for itself, and only there
+pub empty_run : (inside : Bool) (cs run : List ℕ) → run ≡ encode_utf8_all (plain_front inside cs) → starts_plain inside cs ≡ not (eqb (length run) 0)
+empty_run inside [] run e = ap (λ (t : List ℕ). not (eqb (length t) 0)) (sym e)
+empty_run inside (c ∷ cs) run e = by_start (starts_plain inside (c ∷ cs)) e
+  where
+    by_start : (v : Bool) → run ≡ encode_utf8_all (cond v (c ∷ plain_front inside cs) []) → v ≡ not (eqb (length run) 0)
+    by_start true h =
+        let some : eqb (length run) 0 ≡ false = ne_eqb (length run) 0 (λ q. omega (arith, ap length h, length-le-encodes (c ∷ plain_front inside cs))) in
+        sym (ap not some)
+    by_start false h = sym (ap (λ (t : List ℕ). not (eqb (length t) 0)) h)
 
 -- a word of the class begins a text where it begins the run at its front
 begins_taken : (p : ℕ → Bool) (word cs : List ℕ) → IsTrue (list_all p word) → begins word (taken p cs) ≡ begins word cs

@@ -5,13 +5,12 @@ ghost use Rattle.std.specs.Str.{chars};
 ghost use Rattle.xml_grammar.specs.Pieces.{StandsRow, pieces_of};
 ghost use Rattle.xml_tokenizer.specs.Faults.{markup_rule, rule_at};
 ghost use Rattle.xml_tokenizer.specs.Stands.{Fails, FailsAtEnd, IsBehind};
-ghost use Rattle.xml_tokenizer.specs.Tokens.{is_start, is_inside, question_at, section_at, markup_at, starts_plain, plain_front, plain_back, run_at, token_at};
+ghost use Rattle.xml_tokenizer.specs.Tokens.{is_start, is_inside, question_at, section_at, markup_at, plain_front, plain_back, run_at, token_at};
 ghost use Rattle.xml_tokenizer.specs.Steps.{Gives};
 
-use crate::classes::Class;
 use crate::declarations::declaration_of;
 use crate::references::reference_of;
-use crate::runs::{after, begins, behind, next_char, starts_with};
+use crate::runs::{after, begins, behind, next_char};
 use crate::searches::{before, plain_text};
 use crate::sections::{cdata_of, past_comment, past_instruction};
 use crate::stops::{Miss, TokenStop};
@@ -84,13 +83,6 @@ fn markup_of(alloc: Global, start: bool, text: &str) -> Result<(Token<'_>, &str)
     }
 }
 
-/// Whether the first character stands for itself.
-fn starts_plain(inside: bool, text: &str) -> bool
-    ensures { result ≡ starts_plain inside (chars text.now) }
-{
-    starts_with(Class::Plain, text) && !(inside && begins("]]>", text))
-}
-
 /// The longest front of characters that stand for themselves, and the text after it.
 fn plain_run(inside: bool, text: &str) -> (&str, &str)
     ensures front { result.0.now ≡ encode_utf8_all (plain_front inside (chars text.now)) }
@@ -110,10 +102,10 @@ fn plain_run(inside: bool, text: &str) -> (&str, &str)
 fn run_of(inside: bool, text: &str) -> Result<(Token<'_>, &str), Miss>
     ensures { Gives (λ x. (x.0, chars x.1.now)) result (run_at inside (chars text.now)) }
 {
-    if !starts_plain(inside, text) {
+    let (plain, rest) = plain_run(inside, text);
+    if plain.is_empty() {
         return Err(Miss::Nothing);
     }
-    let (plain, rest) = plain_run(inside, text);
     Ok((Token::Run(Text::raw(plain.as_bytes())), rest))
 }
 
