@@ -1,49 +1,113 @@
--- Which refusals `get` has.
-use Rattle.std.proofs.Common.{◌≡◌, ℕ, List, refl, sym, Ok, Err, Some, None, cond, nat_lt, Bool, true, false, subst, rules}
+-- Which refusals a command that shows a view has.
+use Rattle.std.proofs.Common.{◌≡◌, ℕ, List, refl, Ok, Err, Some, None, Bool, true, false, subst, ap, sym, ◌∙◌, inl, inr, if◌then◌else◌}
 use Rattle.std.specs.declared.option.Option.{Option}
 use Rattle.std.specs.declared.result.Result.{Result}
-use Rattle.std.specs.Option.{ok_or}
 use Rattle.xmp_values.specs.declared.faults.Fault.{Fault}
-use Rattle.plain_xml.specs.Plain.{plain_of}
+use Rattle.xmp_values.specs.declared.faults.Part.TheVariants.{Main}
+use Rattle.xmp_values.specs.declared.hints.Hint.{Hint}
+use Rattle.xmp_values.specs.declared.rules.Rule.{Rule}
+use Rattle.xmp_values.specs.declared.rules.Rule.TheVariants.{NoFile, Reserved}
+use Rattle.xmp_values.specs.declared.text.Name.{Name}
+use Rattle.xmp_values.specs.Names.{named}
+use Rattle.xmp_tree.specs.declared.nested.Member.{Member}
+use Rattle.xmp_tree.specs.declared.nested.Value.{Value, out-Value}
+use Rattle.xmp_tree.specs.declared.nested.Shape.{Shape, Shape-F, out-Shape}
+use Rattle.xmp_tree.specs.declared.nested.Shape.TheOpen as layer
+use Rattle.xmp_edit.specs.Paths.{one_name, name_in, name_by, space_of, split_name, is_reserved, at}
+use Rattle.xmp_rdf.specs.declared.meanings.Meaning.{Meaning}
+use Rattle.xmp_write.specs.Packets.{packet_text}
+use Rattle.xmp_files.specs.Faults.{fault_at}
+use Rattle.xmp_files.specs.Loading.{followed}
+use Rattle.xmp_files.specs.Opening.{Means, Opens, in_main}
 use Rattle.xmp_cli.specs.declared.status.Status.TheVariants.{Refused}
-use Rattle.xmp_cli.specs.Commands.{Command, Get}
-use Rattle.xmp_cli.specs.Order.{file_limit, over_limit, no_file, not_built, no_such_place, name_at, dc_name, value_of, followed}
-use Rattle.xmp_cli.specs.Answer.{value_at}
-use Rattle.xmp_cli.specs.Run.{IsRefusal, IsGetRefusal, Refuses}
-use Rattle.xmp_cli.proofs.TooLong.{same_fault, too_long}
+use Rattle.xmp_cli.specs.declared.views.View.{View}
+use Rattle.xmp_cli.specs.declared.views.View.TheVariants as views
+use Rattle.xmp_cli.specs.Commands.{Command}
+use Rattle.xmp_cli.specs.Order.{path_step, shape_text, value_text, get_text, tree_text}
+use Rattle.xmp_cli.specs.Run.{IsPacketRefusal, IsFileRefusal, IsPathRefusal, IsRefusal, Refuses}
+use Rattle.xmp_cli.specs.Steps.{view_of, shows}
+use Rattle.xmp_cli.proofs.NeverMissing.{never_missing}
+
+pub same_fault : (f g : Fault) → Refused f ≡ Refused g → f ≡ g
+same_fault f g e = cc
 
 pub refuses : (c : Option Command) (f : Fault) → IsRefusal c f → Refuses c (Refused f)
 refuses c f h g e = subst (IsRefusal c) (same_fault f g e) h
 
-abbrev GetRefuses : Fault → Type 0
-GetRefuses f = IsGetRefusal f.rule f
-
 same_error : {A : Type 0} (f g : Fault) → (let r : Result A Fault = Err f in r) ≡ Err g → f ≡ g
 same_error f g e = cc
 
--- a step that may give this one fault, and what follows it
-step : {A B : Type 0} (o : Option A) (f g : Fault) (next : A → Result B Fault) → GetRefuses f → ((a : A) → next a ≡ Err g → GetRefuses g) → followed (ok_or o f) next ≡ Err g → GetRefuses g
-step None f g next h later e = subst GetRefuses (same_error f g e) h
-step (Some a) f g next h later e = later a e
+-- a step refuses as the path and what is there do
+abbrev Stops : {A : Type 0} → Result A Fault → Type 0
+Stops (Ok x) = Unit {0}
+Stops (Err fault) = IsPathRefusal fault
 
-last : {A : Type 0} (o : Option A) (f g : Fault) → GetRefuses f → ok_or o f ≡ Err g → GetRefuses g
-last None f g h e = subst GetRefuses (same_error f g e) h
-last (Some a) f g h e = absurd (let bad : Ok a ≡ Err g = e in cc)
+allowed_stops : (reserved : Bool) (name : Name) → Stops (path_step (if reserved then Err Reserved else Ok name))
+allowed_stops true name = inr (inl refl)
+allowed_stops false name = tt
 
-value_refuses : (bytes path : List ℕ) (f : Fault) → value_at bytes path ≡ Err f → GetRefuses f
-value_refuses bytes path f =
-    step (plain_of bytes) not_built f (λ ps. followed (name_at path) (value_of ps)) refl
-    (λ ps. step (dc_name path) not_built f (value_of ps) refl (λ n. last _ no_such_place f refl))
+name_in_stops : (local : List ℕ) (space : Option (List ℕ)) → Stops (path_step (name_in local space))
+name_in_stops local None = inl refl
+name_in_stops local (Some space) = allowed_stops (is_reserved (named space local)) (named space local)
 
-long_by : (over : Bool) (size : ℕ) → nat_lt file_limit size ≡ over → GetRefuses (cond over (over_limit size) not_built)
-long_by true size e = (search rules, refl)
-long_by false size e = refl
+name_by_stops : (hints : List Hint) (parts : Option (List ℕ × List ℕ)) → Stops (path_step (name_by hints parts))
+name_by_stops hints None = inr (inr (inr refl))
+name_by_stops hints (Some parts) = name_in_stops parts.1 (space_of hints parts.0)
 
-pub absent_refuses : (file path : List ℕ) → Refuses (Some (Get file path)) (Refused no_file)
-absent_refuses file path = refuses (Some (Get file path)) _ refl
+shape_stops : (shape : Shape-F Shape Member Value) → Stops (shape_text shape)
+shape_stops (layer.Simple text) = tt
+shape_stops (layer.Uri text) = tt
+shape_stops (layer.Struct fields) = inr (inr (inr refl))
+shape_stops (layer.Array kind items) = inr (inr (inr refl))
 
-pub long_refuses : (file path : List ℕ) (size : ℕ) (f : Fault) → f ≡ too_long size → Refuses (Some (Get file path)) (Refused f)
-long_refuses file path size f is = refuses (Some (Get file path)) _ (subst GetRefuses (sym is) (long_by (nat_lt file_limit size) size refl))
+value_stops : (value : Option Value) → Stops (value_text value)
+value_stops None = inr (inr (inl refl))
+value_stops (Some value) = shape_stops (out-Shape (out-Value value).shape)
 
-pub step_refuses : (file path bytes : List ℕ) (f : Fault) → value_at bytes path ≡ Err f → Refuses (Some (Get file path)) (Refused f)
-step_refuses file path bytes f e = refuses (Some (Get file path)) _ (value_refuses bytes path f e)
+followed_stops : (name : Result Name Fault) (next : Name → Result (List ℕ) Fault) → Stops name → ((n : Name) → Stops (next n)) → Stops (followed name next)
+followed_stops (Ok name) next h later = later name
+followed_stops (Err fault) next h later = h
+
+get_stops : (path : List ℕ) (m : Meaning) → Stops (get_text path m)
+unfolding get_text
+get_stops path m = followed_stops (path_step (one_name m.hints path)) (λ name. value_text (at m.tree name))
+    (name_by_stops m.hints (split_name path)) (λ name. value_stops (at m.tree name))
+
+stopped : (step : Result (List ℕ) Fault) (fault : Fault) → Stops step → step ≡ Err fault → IsPathRefusal fault
+stopped (Ok text) fault h e = absurd (let bad : Ok text ≡ Err fault = e in cc)
+stopped (Err f) fault h e = subst IsPathRefusal (same_error f fault e) h
+
+tree_gives : (m : Meaning) (fault : Fault) → tree_text m ≡ Err fault → ⊥
+unfolding tree_text
+tree_gives m fault e = cc
+
+view_refuses : (file : List ℕ) (view : View) (m : Meaning) (fault : Fault) → view_of view m ≡ Err fault
+    → IsRefusal (Some (shows file view)) fault × (fault.rule ≡ NoFile → ⊥)
+view_refuses file (views.Value path) m fault e = let is = stopped (get_text path.now m) fault (get_stops path.now m) e in (inr is, path_there fault is)
+  where
+    path_there : (f : Fault) → IsPathRefusal f → f.rule ≡ NoFile → ⊥
+    path_there f (inl e) rule = cc
+    path_there f (inr (inl e)) rule = cc
+    path_there f (inr (inr (inl e))) rule = cc
+    path_there f (inr (inr (inr e))) rule = cc
+view_refuses file views.Tree m fault e = absurd (tree_gives m fault e)
+
+pub file_refuses : (file : List ℕ) (view : View) (fault : Fault) → IsFileRefusal fault → IsRefusal (Some (shows file view)) fault
+file_refuses file (views.Value path) fault h = inl h
+file_refuses file views.Tree fault h = h
+
+packet_refuses : (text : List ℕ) (read : Result Meaning (Rule × ℕ)) (fault : Fault) → Means text read → (let e : Result Meaning Fault = Err fault in e) ≡ in_main read → IsPacketRefusal fault
+packet_refuses text (Ok m) fault means e = absurd (let bad : Err fault ≡ Ok m = e in cc)
+packet_refuses text (Err (rule, place)) fault means e = (text, rule, place, means, same_error fault (fault_at rule Main place) e)
+
+packet_there : (fault : Fault) → IsPacketRefusal fault → fault.rule ≡ NoFile → ⊥
+packet_there fault h rule = never_missing h.0 h.2
+    (subst (λ (r : Rule). Means h.0 (Err (r, h.2))) (sym (ap (λ (f : Fault). f.rule) h.4) ∙ rule) h.3)
+
+-- a view of a payload refuses as its packet, the path and what is there do
+pub step_refuses : (file : List ℕ) (view : View) (payload : List ℕ) (step : Result Meaning Fault) (fault : Fault) → Opens payload step → followed step (view_of view) ≡ Err fault
+    → IsRefusal (Some (shows file view)) fault × (fault.rule ≡ NoFile → ⊥)
+step_refuses file view payload (Ok m) fault opens e = view_refuses file view m fault e
+step_refuses file view payload (Err f) fault opens e =
+    let is = subst IsPacketRefusal (same_error f fault e) (packet_refuses (packet_text payload) opens.0 f opens.1 opens.2) in
+    (file_refuses file view fault (inr (inr is)), packet_there fault is)

@@ -1,65 +1,56 @@
--- The one order of refusals: each step gives a value, or the first fault.
-use Rattle.std.specs.Prelude.{ℕ, List, ◌&&◌, nat_lt, length, if◌then◌else◌, Option, None, Some, option_map, option_and_then, Ok, Err, codes}
-use Rattle.std.specs.List.{find, list_all}
-use Rattle.std.specs.Option.{ok_or}
-use Rattle.std.specs.Char.{is_ascii_alphabetic}
-use Rattle.std.specs.Str.{bytes_eq}
+-- The last steps of the one order of refusals: the path, and what is there. The steps before them are those of a file.
+use Rattle.std.specs.Prelude.{ℕ, List, ◌++◌, length, Option, None, Some, Ok, Err, codes}
 use Rattle.std.specs.declared.result.Result.{Result}
 use Rattle.xmp_values.specs.declared.faults.Fault.{Fault}
-use Rattle.xmp_values.specs.declared.faults.Part.{Part}
-use Rattle.xmp_values.specs.declared.faults.Part.TheVariants.{File, Words}
+use Rattle.xmp_values.specs.declared.faults.Part.TheVariants.{Words}
 use Rattle.xmp_values.specs.declared.rules.Rule.{Rule}
-use Rattle.xmp_values.specs.declared.rules.Rule.TheVariants.{NoFile, FileLimit, NotBuilt, NoSuchPlace}
-use Rattle.plain_xml.specs.Plain.{Property, plain_of, behind}
+use Rattle.xmp_values.specs.declared.rules.Rule.TheVariants.{NotBuilt, NoSuchPlace}
+use Rattle.xmp_values.specs.declared.text.Name.{Name}
+use Rattle.xmp_tree.specs.declared.nested.Member.{Member}
+use Rattle.xmp_tree.specs.declared.nested.Value.{Value, out-Value}
+use Rattle.xmp_tree.specs.declared.nested.Shape.{Shape, Shape-F, out-Shape}
+use Rattle.xmp_tree.specs.declared.nested.Shape.TheOpen as layer
+use Rattle.xmp_edit.specs.Paths.{one_name, at}
+use Rattle.xmp_rdf.specs.declared.meanings.Meaning.{Meaning}
+use Rattle.xmp_tree.specs.Parts.{Parts}
+use Rattle.xmp_write.specs.declared.forms.Form.{Form}
+use Rattle.xmp_write.specs.Prefixes.{prefixes}
+use Rattle.xmp_write.specs.Lines.{lines}
+use Rattle.xmp_files.specs.Faults.{fault_at, not_built}
+use Rattle.xmp_files.specs.Loading.{followed}
 
-abbrev pub fault_at : Rule → Part → ℕ → Fault
-fault_at rule part at = record { rule = rule; place = record { part = part; at = at }; x = 0; y = 0 }
+-- a rule that PATH breaks, the second word behind the command; a path of a form that isn't built yet is refused as such
+abbrev pub path_fault : Rule → Fault
+path_fault NotBuilt = not_built
+path_fault rule = fault_at rule Words 2
 
--- a step, and behind it the next ones
-abbrev pub followed : {A B : Type 0} → Result A Fault → (A → Result B Fault) → Result B Fault
-followed (Ok x) next = next x
-followed (Err fault) next = Err fault
+abbrev pub path_step : Result Name Rule → Result Name Fault
+path_step (Ok name) = Ok name
+path_step (Err rule) = Err (path_fault rule)
 
--- FILE isn't there
-abbrev pub no_file : Fault
-no_file = fault_at NoFile File 0
-
--- the most bytes of a file: 2 ^ 40
-abbrev pub file_limit : ℕ
-file_limit = 1099511627776
-
--- FILE is longer than the limit
-abbrev pub over_limit : ℕ → Fault
-over_limit size = record { rule = FileLimit; place = record { part = File; at = 0 }; x = size; y = file_limit }
-
--- a form that isn't built yet
-abbrev pub not_built : Fault
-not_built = fault_at NotBuilt File 0
-
--- no value is at PATH, the second word behind the command
+-- no value is at PATH
 abbrev pub no_such_place : Fault
 no_such_place = fault_at NoSuchPlace Words 2
 
--- First FILE is there and within the limit.
-abbrev pub within : Option (List ℕ) → Result (List ℕ) Fault
-within None = Err no_file
-within (Some bytes) = if nat_lt file_limit (length bytes) then Err (over_limit (length bytes)) else Ok bytes
+-- a text or a URI as it stands, and LF; the lines of other shapes aren't built yet
+abbrev pub shape_text : Shape-F Shape Member Value → Result (List ℕ) Fault
+shape_text (layer.Simple text) = Ok (text ++ codes "\n")
+shape_text (layer.Uri text) = Ok (text ++ codes "\n")
+shape_text (layer.Struct fields) = Err not_built
+shape_text (layer.Array kind items) = Err not_built
 
--- Then its kind, its container, its text and its tree. Plain files alone are read yet.
-abbrev pub properties_of : List ℕ → Result (List Property) Fault
-properties_of bytes = ok_or (plain_of bytes) not_built
+abbrev pub value_text : Option Value → Result (List ℕ) Fault
+value_text None = Err no_such_place
+value_text (Some value) = shape_text (out-Shape (out-Value value).shape)
 
-abbrev pub letters : List ℕ → Option (List ℕ)
-letters name = if nat_lt 0 (length name) && list_all is_ascii_alphabetic name then Some name else None
+-- what `get` shows of a file's meaning: the path, then the value there
+unfoldable pub get_text : List ℕ → Meaning → Result (List ℕ) Fault
+get_text path meaning = followed (path_step (one_name meaning.hints path)) (λ name. value_text (at meaning.tree name))
 
--- the name behind `dc:`, of one or more ASCII letters
-abbrev pub dc_name : List ℕ → Option (List ℕ)
-dc_name path = option_and_then letters (behind (codes "dc:") path)
+-- the form of every property, without a note
+abbrev pub whole : Parts → Form
+whole tree = record { first = 0; count = length tree.props; note = None }
 
--- Then the path. Such names alone are read yet.
-abbrev pub name_at : List ℕ → Result (List ℕ) Fault
-name_at path = ok_or (dc_name path) not_built
-
--- Then the value of this name.
-abbrev pub value_of : List Property → List ℕ → Result (List ℕ) Fault
-value_of properties name = ok_or (option_map (λ p. p.1) (find (λ p. bytes_eq p.0 name) properties)) no_such_place
+-- what `tree` shows: the lines of the tree, with the prefixes of the text of every property without a note
+unfoldable pub tree_text : Meaning → Result (List ℕ) Fault
+tree_text meaning = Ok (lines (prefixes meaning.tree meaning.hints (whole meaning.tree)) meaning.tree)

@@ -1,28 +1,39 @@
 -- What a step of the code gives, beside the step of the order. Memory may always be wanted.
-use Rattle.std.specs.Prelude.{◌≡◌, ℕ, List, ◌++◌, map, Option, Some, None, Ok, Err, codes}
+use Rattle.std.specs.Prelude.{◌≡◌, ℕ, List, Ok, Err}
 use Rattle.std.specs.declared.result.Result.{Result}
 use Rattle.xmp_values.specs.declared.faults.Fault.{Fault}
-use Rattle.xmp_tree.specs.declared.nested.Member.{Member}
-use Rattle.plain_xml.specs.Plain.{Property}
-use Rattle.plain_rdf.specs.Plain.{property_member}
-use Rattle.xmp_cli.specs.Order.{no_such_place}
+use Rattle.xmp_rdf.specs.declared.meanings.Meaning.{Meaning}
+use Rattle.xmp_files.specs.Loading.{followed}
+use Rattle.xmp_files.specs.Opening.{Opens}
+use Rattle.xmp_cli.specs.Commands.{Command, Get, Tree as TreeOf}
+use Rattle.xmp_cli.specs.Order.{get_text, tree_text}
 use Rattle.xmp_cli.specs.declared.stop.Stop.{Stop}
 use Rattle.xmp_cli.specs.declared.stop.Stop.TheVariants.{Fault as Stopped, Memory}
+use Rattle.xmp_cli.specs.declared.views.View.{View}
+use Rattle.xmp_cli.specs.declared.views.View.TheVariants.{Value, Tree}
 
--- the text with its LF, or the fault
+-- what a view shows of a meaning
+abbrev pub view_of : View → Meaning → Result (List ℕ) Fault
+view_of (Value path) meaning = get_text path.now meaning
+view_of Tree meaning = tree_text meaning
+
+-- the command that shows a view of a file
+abbrev pub shows : List ℕ → View → Command
+shows file (Value path) = Get file path.now
+shows file Tree = TreeOf file
+
+-- the text, or the fault
 abbrev pub Gives : Result (List ℕ) Stop → Result (List ℕ) Fault → Type 0
-Gives (Ok line) step = (text : List ℕ) × (step ≡ Ok text) × (line ≡ text ++ codes "\n")
+Gives (Ok text) step = step ≡ Ok text
 Gives (Err (Stopped fault)) step = step ≡ Err fault
 Gives (Err Memory) step = Unit {0}
 
--- the properties as members of a tree, or the fault
-abbrev pub GivesMembers : Result (List Member) Stop → Result (List Property) Fault → Type 0
-GivesMembers (Ok members) step = (ps : List Property) × (step ≡ Ok ps) × (members ≡ map property_member ps)
-GivesMembers (Err (Stopped fault)) step = step ≡ Err fault
-GivesMembers (Err Memory) step = Unit {0}
+-- what a view of a payload gives, for a step that the payload has
+abbrev pub ViewAgrees : (Meaning → Result (List ℕ) Fault) → Result (List ℕ) Stop → Result Meaning Fault → Type 0
+ViewAgrees view result step = Gives result (followed step view)
 
--- the text with its LF, or that there is none
-abbrev pub GivesValue : Result (List ℕ) Stop → Option (List ℕ) → Type 0
-GivesValue (Ok line) found = (text : List ℕ) × (found ≡ Some text) × (line ≡ text ++ codes "\n")
-GivesValue (Err (Stopped fault)) found = (found ≡ None) × (fault ≡ no_such_place)
-GivesValue (Err Memory) found = Unit {0}
+-- the answer is that of a step which the payload has; want of memory is free
+abbrev pub IsViewed : (Meaning → Result (List ℕ) Fault) → Result (List ℕ) Stop → List ℕ → Type 0
+IsViewed view (Err Memory) payload = Unit {0}
+IsViewed view (Ok text) payload = (step : Result Meaning Fault) × Opens payload step × (followed step view ≡ Ok text)
+IsViewed view (Err (Stopped fault)) payload = (step : Result Meaning Fault) × Opens payload step × (followed step view ≡ Err fault)

@@ -9,6 +9,11 @@ mod files;
 #[cfg(test)]
 mod runs;
 #[cfg(test)]
+mod sidecars;
+#[cfg(test)]
 mod tests;
 
-pub use files::PHOTO;
+pub use files::{
+    BLANKS, EMPTY, NO_DESCRIPTION, PHOTO, QUALIFIED, QUALIFIED_LINES, TWICE, TYPED, TYPED_LINES,
+    USUAL, USUAL_LINES,
+};

@@ -68,10 +68,22 @@ pub fn run_words(alloc: Global, list: &[&str], plan: Plan) -> Result<Ran, Memory
     Ok(Ran { status, out, err })
 }
 
-/// Runs `get` over one file of this length, all zeros.
-pub fn run_length(alloc: Global, length: u64) -> Result<Ran, Memory> {
-    let words = words_of(alloc, &["get", "a.jpg", "dc:format"])?;
-    let mut desk = SparseDesk::new(alloc, "a.jpg", length)?;
+/// Runs the words over `a.xmp` of these bytes.
+pub fn run_over(alloc: Global, list: &[&str], file: &[u8]) -> Result<Ran, Memory> {
+    let words = words_of(alloc, list)?;
+    let mut desk = MemoryDesk::new(alloc);
+    desk.add("a.xmp", file)?;
+    let mut out = MemorySink::new(alloc);
+    let mut err = MemorySink::new(alloc);
+    let status = run_in_memory(alloc, &words, &mut desk, &mut out, &mut err);
+    Ok(Ran { status, out, err })
+}
+
+/// Runs `get` over one file of this length, which begins so and is zeros behind that.
+pub fn run_length(alloc: Global, front: &str, length: u64) -> Result<Ran, Memory> {
+    let words = words_of(alloc, &["get", "a.xmp", "dc:format"])?;
+    let mut desk = SparseDesk::new(alloc, "a.xmp", length)?;
+    desk.piece(0, front.as_bytes())?;
     let mut out = MemorySink::new(alloc);
     let mut err = MemorySink::new(alloc);
     let status = run(alloc, &words, &mut desk, &mut out, &mut err);

@@ -10,6 +10,8 @@ const USAGE: &str =
 
 const NOT_BUILT: &str = "refused NotBuilt file 0 0 0\n";
 
+const NOT_KNOWN: &str = "refused NotKnown file 0 0 0\n";
+
 const SIZE_FAILS: Plan = Plan {
     desk: 1,
     out: 0,
@@ -47,6 +49,7 @@ fn refused(rule: Rule, part: Part, at: u64) -> Status {
 fn get_shows_a_value_or_answers_the_first_fault(rt: HostRuntime) -> Result<(), Fail> {
     let no_file = refused(Rule::NoFile, Part::File, 0);
     let not_built = refused(Rule::NotBuilt, Part::File, 0);
+    let not_known = refused(Rule::NotKnown, Part::File, 0);
     let no_place = refused(Rule::NoSuchPlace, Part::Words, 2);
     for (file, path, plan, status, text, line) in [
         (
@@ -65,10 +68,9 @@ fn get_shows_a_value_or_answers_the_first_fault(rt: HostRuntime) -> Result<(), F
             "",
             "refused NoSuchPlace words 2 0 0\n",
         ),
-        ("photo.xmp", "xmp:Label", SOUND, not_built, "", NOT_BUILT),
         ("photo.xmp", "dc:", SOUND, not_built, "", NOT_BUILT),
-        ("a.xmp", "dc:format", SOUND, not_built, "", NOT_BUILT),
-        ("empty.xmp", "dc:format", SOUND, not_built, "", NOT_BUILT),
+        ("a.xmp", "dc:format", SOUND, not_known, "", NOT_KNOWN),
+        ("empty.xmp", "dc:format", SOUND, not_known, "", NOT_KNOWN),
         (
             "none.xmp",
             "dc:format",
@@ -128,16 +130,34 @@ fn get_shows_a_value_or_answers_the_first_fault(rt: HostRuntime) -> Result<(), F
 }
 
 #[test]
+fn tree_shows_nothing_of_no_file_or_on_a_failing_desk(rt: HostRuntime) -> Result<(), Fail> {
+    for (file, plan, line) in [
+        ("none.xmp", SOUND, "refused NoFile file 0 0 0\n"),
+        ("a.xmp", SIZE_FAILS, "device\n"),
+    ] {
+        let found = run_words(rt.alloc(), &["tree", file], plan)?;
+        assert_eq!(rt; found.out.sent().len(), 0, "{file}");
+        assert_eq!(rt; found.err.sent(), line.as_bytes(), "{file}");
+    }
+    Ok(())
+}
+
+#[test]
 fn a_long_file_is_refused_by_its_length(rt: HostRuntime) -> Result<(), Fail> {
-    for (length, line) in [
+    for (front, length, line) in [
         (
+            "<",
             1_099_511_627_777,
             "refused FileLimit file 0 1099511627777 1099511627776\n",
         ),
-        (1_099_511_627_776, NOT_BUILT),
-        (16_777_217, NOT_BUILT),
+        ("", 1_099_511_627_776, NOT_KNOWN),
+        (
+            "<",
+            16_777_217,
+            "refused XmpLimit main 0 16777217 16777216\n",
+        ),
     ] {
-        let found = run_length(rt.alloc(), length)?;
+        let found = run_length(rt.alloc(), front, length)?;
         assert_eq!(rt; found.err.sent(), line.as_bytes(), "{length}");
     }
     let mut desk = MemoryDesk::new(rt.alloc());
@@ -160,7 +180,6 @@ fn split<'t>(alloc: Global, line: &'t str) -> Result<Vec<&'t str>, AllocError> {
 #[test]
 fn other_words_are_a_command_that_is_not_built_or_none(rt: HostRuntime) -> Result<(), Fail> {
     for (line, is_command) in [
-        ("tree a.xmp", true),
         ("set a.xmp b.xmp dc:format x", true),
         ("apply a.xmp b.xmp script", true),
         ("patch a.xmp script", true),

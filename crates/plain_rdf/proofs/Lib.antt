@@ -1,2 +1,0 @@
-pub mod RootShape
-pub mod FormedLaws

@@ -1,5 +1,0 @@
-pub mod Plain
-pub mod PlainDocument
-pub mod Documents
-pub mod Read
-pub mod Lines

@@ -1,0 +1,116 @@
+-- No packet is refused as a file that isn't there.
+use Rattle.std.proofs.Common.{◌≡◌, ℕ, Bool, true, false, List, [], ◌∷◌, Option, Some, None, Ok, Err, inl, inr, if◌then◌else◌, ap, refl}
+use Rattle.std.specs.declared.result.Result.{Result}
+use Rattle.xmp_values.specs.declared.rules.Rule.{Rule}
+use Rattle.xmp_values.specs.declared.rules.Rule.TheVariants.{NoFile, NoRdf, NotDescription, AboutDiffers, NoNamespace, XmlName, RdfName, RefusedAttribute, BadParseType, Mixed, ManyNodes, BadContainer, BadItem, TwiceValue, Twice, TreeDeep}
+use Rattle.xmp_values.specs.declared.hints.Hint.{Hint}
+use Rattle.xmp_values.specs.declared.text.Name.{Name}
+use Rattle.xml_grammar.specs.declared.elements.Element.{Element}
+use Rattle.rdf_forms.specs.declared.roles.Role.{Role}
+use Rattle.rdf_forms.specs.Visits.{Visit, visits}
+use Rattle.rdf_forms.specs.NameRules.{name_rule, no_rdf, not_description, about_differs, no_namespace, xml_name, rdf_name}
+use Rattle.rdf_forms.specs.FormRules.{form_rule, refused_attribute, bad_parse_type, mixed, many_nodes, bad_container, bad_item}
+use Rattle.rdf_forms.specs.MemberRules.{member_rule, twice_value, twice, tree_deep}
+use Rattle.rdf_forms.specs.Rules.{or_else, broken, broken_in, placed, fault_at, first_fault, fault_of}
+use Rattle.xmp_rdf.specs.Meanings.{reading, most_levels}
+use Rattle.xmp_rdf.specs.Meanings as readings
+use Rattle.xmp_files.specs.Opening.{Means}
+
+-- a rule, if there is one, isn't that of a missing file
+abbrev IsThere : Option Rule → Type 0
+IsThere rule = rule ≡ Some NoFile → ⊥
+
+or_there : (a b : Option Rule) → IsThere a → IsThere b → IsThere (or_else a b)
+or_there None b h k = k
+or_there (Some a) b h k = h
+
+six_there : (a b c d e f : Bool) → IsThere (if a then Some NoRdf else if b then Some NotDescription else if c then Some AboutDiffers
+    else if d then Some NoNamespace else if e then Some XmlName else if f then Some RdfName else None)
+six_there true b c d e f = λ x. cc
+six_there false true c d e f = λ x. cc
+six_there false false true d e f = λ x. cc
+six_there false false false true e f = λ x. cc
+six_there false false false false true f = λ x. cc
+six_there false false false false false true = λ x. cc
+six_there false false false false false false = λ x. cc
+
+form_there_by : (a b c d e f : Bool) → IsThere (if a then Some RefusedAttribute else if b then Some BadParseType else if c then Some Mixed
+    else if d then Some ManyNodes else if e then Some BadContainer else if f then Some BadItem else None)
+form_there_by true b c d e f = λ x. cc
+form_there_by false true c d e f = λ x. cc
+form_there_by false false true d e f = λ x. cc
+form_there_by false false false true e f = λ x. cc
+form_there_by false false false false true f = λ x. cc
+form_there_by false false false false false true = λ x. cc
+form_there_by false false false false false false = λ x. cc
+
+member_there_by : (a b c : Bool) → IsThere (if a then Some TwiceValue else if b then Some Twice else if c then Some TreeDeep else None)
+member_there_by true b c = λ x. cc
+member_there_by false true c = λ x. cc
+member_there_by false false true = λ x. cc
+member_there_by false false false = λ x. cc
+
+name_there : (role : Role) (e : Element) (first : List ℕ) → IsThere (name_rule role e first)
+unfolding name_rule
+name_there role e first =
+    six_there (no_rdf role e) (not_description role e) (about_differs role e first) (no_namespace role e) (xml_name role e) (rdf_name role e)
+
+form_there : (role : Role) (e : Element) → IsThere (form_rule role e)
+unfolding form_rule
+form_there role e =
+    form_there_by (refused_attribute role e) (bad_parse_type role e) (mixed role e) (many_nodes role e) (bad_container role e) (bad_item role e)
+
+member_there : (role : Role) (depth : ℕ) (e : Element) (names : List Name) → IsThere (member_rule role depth e names)
+unfolding member_rule
+member_there role depth e names = member_there_by (twice_value role e) (twice role e names) (tree_deep role depth e)
+
+broken_there_in : (role : Role) (depth : ℕ) (e : Element) (first : List ℕ) (names : List Name) → IsThere (broken_in role depth e first names)
+unfolding broken_in
+broken_there_in role depth e first names =
+    or_there _ _ (name_there role e first) (or_there _ _ (form_there role e) (member_there role depth e names))
+
+broken_there : (v : Visit) → IsThere (broken v)
+unfolding broken
+broken_there v = broken_there_in _ _ _ _ _
+
+-- with its place
+abbrev IsFoundThere : Option (Rule × ℕ) → Type 0
+IsFoundThere found = (place : ℕ) → found ≡ Some (NoFile, place) → ⊥
+
+abbrev rule_in : Option (Rule × ℕ) → Option Rule
+rule_in None = None
+rule_in (Some found) = Some found.0
+
+placed_there : (place : ℕ) (rule : Option Rule) → IsThere rule → IsFoundThere (placed place rule)
+placed_there place None h = λ other e. cc
+placed_there place (Some rule) h = λ other e. h (ap rule_in e)
+
+or_found : (a b : Option (Rule × ℕ)) → IsFoundThere a → IsFoundThere b → IsFoundThere (or_else a b)
+or_found None b h k = k
+or_found (Some a) b h k = h
+
+visits_there : (vs : List Visit) → IsFoundThere (first_fault vs)
+visits_there [] = λ place e. cc
+visits_there (v ∷ vs) = or_found (fault_at v) (first_fault vs) (placed_there _ _ (broken_there v)) (visits_there vs)
+
+ok_or_err : {A B : Type 0} (x : A) (y : B) → (let r : Result A B = Ok x in r) ≡ Err y → ⊥
+ok_or_err x y e = cc
+
+same_err : {A B : Type 0} (x y : B) → (let r : Result A B = Err x in r) ≡ Err y → x ≡ y
+same_err x y e = cc
+
+abbrev found_one : Rule × ℕ → Option (Rule × ℕ)
+found_one fault = Some fault
+
+reading_by : (root : Element) (hints : List Hint) (place : ℕ) (found : Option (Rule × ℕ)) → fault_of most_levels root ≡ found → IsFoundThere found
+    → reading root hints ≡ Err (NoFile, place) → ⊥
+unfolding reading readings.reading_within
+reading_by root hints place None is h = rw (is) (λ e. ok_or_err _ _ e)
+reading_by root hints place (Some fault) is h = rw (is) (λ e. h place (ap found_one (same_err fault (NoFile, place) e)))
+
+reading_there : (root : Element) (hints : List Hint) (place : ℕ) → reading root hints ≡ Err (NoFile, place) → ⊥
+reading_there root hints place e = reading_by root hints place (fault_of most_levels root) refl (visits_there (visits most_levels root)) e
+
+pub never_missing : (text : List ℕ) (place : ℕ) → Means text (Err (NoFile, place)) → ⊥
+never_missing text place (inl fault) = fault.rule
+never_missing text place (inr read) = reading_there read.0 read.1 place read.3

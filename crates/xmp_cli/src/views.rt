@@ -1,0 +1,85 @@
+//! What a command shows of a file's meaning: the value at a path, or the lines of the tree.
+ghost use Rattle.std.specs.Prelude.{◌≡◌, ◌++◌, codes, IfOk};
+ghost use Rattle.std.specs.Option.{option_copied};
+ghost use Rattle.xmp_tree.specs.declared.nested.Shape.{out-Shape};
+ghost use Rattle.xmp_cli.specs.Order.{get_text, tree_text, path_fault, shape_text, value_text};
+ghost use Rattle.xmp_cli.specs.Steps.{Gives, view_of};
+
+use crate::faults::{no_such_place, path_fault};
+use crate::stop::Stop;
+use std::alloc::Global;
+use xmp_edit::{Path, PathStop, find};
+use xmp_files::not_built;
+use xmp_rdf::Meaning;
+use xmp_tree::{Shape, Value};
+use xmp_values::{Bytes, Memory};
+use xmp_write::{Form, Prefixes, lines};
+
+/// What is shown.
+#[derive(Clone, Copy, Debug, PartialEq, Eq)]
+pub enum View<'w> {
+    /// The value at a path.
+    Value(&'w str),
+    /// The tree.
+    Tree,
+}
+
+/// What a view shows of a meaning.
+pub fn text_of(alloc: Global, meaning: &Meaning<'_>, view: View<'_>) -> Result<Bytes, Stop>
+    ensures { Gives result (view_of view.entry meaning.now) }
+{
+    match view {
+        View::Value(path) => value_at(alloc, meaning, path),
+        View::Tree => Ok(tree_lines(alloc, meaning)?),
+    }
+}
+
+/// The value at a path, with a LF.
+#[tactic(auto, unfolding(crate::specs::Order::get_text))]
+fn value_at(alloc: Global, meaning: &Meaning<'_>, path: &str) -> Result<Bytes, Stop>
+    ensures { Gives result (get_text path.now meaning.now) }
+{
+    let path = match Path::read(alloc, path.as_bytes(), &meaning.hints) {
+        Ok(path) => path,
+        Err(PathStop::Fault(rule)) => return Err(Stop::Fault(path_fault(rule))),
+        Err(PathStop::Memory) => return Err(Stop::Memory),
+    };
+    value_text(alloc, find(&meaning.tree, &path))
+}
+
+fn value_text(alloc: Global, value: Option<&Value<'_>>) -> Result<Bytes, Stop>
+    ensures { Gives result (value_text (option_copied value.entry)) }
+{
+    match value {
+        Some(value) => shape_text(alloc, &value.shape),
+        None => Err(Stop::Fault(no_such_place())),
+    }
+}
+
+fn shape_text(alloc: Global, shape: &Shape<'_>) -> Result<Bytes, Stop>
+    ensures { Gives result (shape_text (out-Shape shape.now)) }
+{
+    match shape {
+        Shape::Simple(text) => Ok(with_line_feed(alloc, text.bytes())?),
+        Shape::Uri(text) => Ok(with_line_feed(alloc, text.bytes())?),
+        Shape::Struct(_) | Shape::Array(_, _) => Err(Stop::Fault(not_built())),
+    }
+}
+
+fn with_line_feed(alloc: Global, text: &[u8]) -> Result<Bytes, Memory>
+    ensures { IfOk result (λ line. line ≡ text.now ++ codes "\n") }
+{
+    let mut line = Bytes::from_slice(alloc, text)?;
+    line.push(b'\n')?;
+    Ok(line)
+}
+
+/// The lines of the tree.
+#[tactic(auto, unfolding(crate::specs::Order::tree_text))]
+fn tree_lines(alloc: Global, meaning: &Meaning<'_>) -> Result<Bytes, Memory>
+    ensures { IfOk result (λ text. tree_text meaning.now ≡ Ok text) }
+{
+    let form = Form::whole(&meaning.tree);
+    let prefixes = Prefixes::of(alloc, &meaning.tree, &meaning.hints, &form)?;
+    lines(alloc, &meaning.tree, &prefixes)
+}
