@@ -14,6 +14,8 @@ mod merging;
 mod owning;
 mod parting;
 mod stops;
+#[cfg(test)]
+mod tests;
 mod texts;
 mod tops;
 mod values;
