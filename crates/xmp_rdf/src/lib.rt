@@ -11,6 +11,8 @@ mod hints;
 mod meanings;
 mod members;
 mod merging;
+#[cfg(test)]
+mod merging_tests;
 mod owning;
 mod parting;
 mod stops;
