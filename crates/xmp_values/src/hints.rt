@@ -1,5 +1,5 @@
 //! Hints: namespaces, each with the prefix under which a writer may declare it.
-ghost use Rattle.std.specs.Prelude.{◌≡◌, ◌++◌, ◌∷◌, [], length, slice_get, OnOk, OnErr};
+ghost use Rattle.std.specs.Prelude.{◌≡◌, ◌++◌, ◌∷◌, [], length, slice_get, IfOk, OnOk, OnErr};
 ghost use Rattle.std.specs.Option.{option_copied};
 ghost use Rattle.xmp_values.specs.Hints.{AreValid};
 
@@ -14,6 +14,17 @@ pub struct Hint {
     pub space: Bytes,
     /// The prefix, a name without colon.
     pub prefix: Bytes,
+}
+
+impl Hint {
+    /// The same hint again, in a copy.
+    pub fn again(&self, alloc: Global) -> Result<Hint, Memory>
+        ensures { IfOk result (λ h. h ≡ self.now) }
+    {
+        let space = Bytes::from_slice(alloc, self.space.as_slice())?;
+        let prefix = Bytes::from_slice(alloc, self.prefix.as_slice())?;
+        Ok(Hint { space, prefix })
+    }
 }
 
 /// A list of hints that are valid together: each namespace once.
@@ -78,6 +89,21 @@ impl Hints {
         self.list.get(at)
     }
 
+    /// The hints.
+    pub fn as_slice(&self) -> &[Hint]
+        ensures hints { result.now ≡ self.now }
+        ensures valid { AreValid self.now }
+    {
+        self.list.as_slice()
+    }
+
+    /// The same hints again, in a copy.
+    pub fn again(&self, alloc: Global) -> Result<Hints, Memory>
+        ensures { IfOk result (λ hs. hs ≡ self.now) }
+    {
+        Ok(Hints::from_list(copies(alloc, self.as_slice())?))
+    }
+
     /// The hints as a list, without copying them.
     pub fn into_sequence(self) -> Sequence<Hint>
         ensures { result ≡ self }
@@ -85,4 +111,14 @@ impl Hints {
         let Hints { list } = self;
         list
     }
+}
+
+fn copies(alloc: Global, hints: &[Hint]) -> Result<Sequence<Hint>, Memory>
+    ensures { IfOk result (λ hs. hs ≡ hints.now) }
+{
+    let mut list = Sequence::new(alloc);
+    for hint in hints {
+        list.push(hint.again(alloc)?)?;
+    }
+    Ok(list)
 }

@@ -1,8 +1,9 @@
-ghost use Rattle.std.specs.Prelude.{◌≡◌, IfOk};
+ghost use Rattle.std.specs.Prelude.{◌≡◌, ◌↔◌, IsTrue, IfOk};
 
 use crate::{Bytes, Memory};
 use std::alloc::Global;
 use std::marker::Model;
+use std::rc::Rc;
 
 /// A text of the file, or one of its own. Contracts see its bytes.
 #[derive(Drop)]
@@ -14,6 +15,7 @@ pub struct Text<'p> {
 enum Kept<'p> {
     Raw(&'p [u8]),
     Own(Bytes),
+    Shared(Rc<Bytes>),
 }
 
 impl<'p> Model for Text<'p> {
@@ -52,16 +54,32 @@ impl<'p> Text<'p> {
         match &self.kept {
             Kept::Raw(bytes) => bytes,
             Kept::Own(bytes) => bytes.as_slice(),
+            Kept::Shared(bytes) => bytes.as_ref().as_slice(),
         }
     }
 
-    /// The same text again. One of the file is only borrowed again, one of its own is copied.
+    /// The same text, of which `again` copies no byte from now on.
+    pub fn shared(self, alloc: Global) -> Result<Text<'p>, Memory>
+        ensures { IfOk result (λ t. t ≡ self.entry) }
+    {
+        let kept = match self.kept {
+            Kept::Own(bytes) => Kept::Shared(Rc::new(alloc, bytes)?),
+            kept => kept,
+        };
+        Ok(Text { kept })
+    }
+
+    /// The same text again. One of the file is only borrowed again and one that is shared gets one
+    /// owner more; one of its own is copied.
     pub fn again(&self, alloc: Global) -> Result<Text<'p>, Memory>
         ensures { IfOk result (λ t. t ≡ self.now) }
     {
         match &self.kept {
             Kept::Raw(bytes) => Ok(Text::raw(bytes)),
             Kept::Own(bytes) => Ok(Text::own(Bytes::from_slice(alloc, bytes.as_slice())?)),
+            Kept::Shared(bytes) => Ok(Text {
+                kept: Kept::Shared(bytes.clone()?),
+            }),
         }
     }
 }
@@ -71,4 +89,23 @@ impl<'p> Text<'p> {
 pub struct Name<'p> {
     pub space: Text<'p>,
     pub local: Text<'p>,
+}
+
+impl<'p> Name<'p> {
+    /// The same name again, its texts as by `Text::again`.
+    pub fn again(&self, alloc: Global) -> Result<Name<'p>, Memory>
+        ensures { IfOk result (λ n. n ≡ self.now) }
+    {
+        let space = self.space.again(alloc)?;
+        let local = self.local.again(alloc)?;
+        Ok(Name { space, local })
+    }
+
+    /// Whether the names have one namespace and one local part.
+    pub fn is_same(&self, other: &Name<'_>) -> bool
+        ensures { IsTrue result ↔ (self.now ≡ other.now) }
+    {
+        // The local part first: it alone tells most names apart.
+        self.local.bytes() == other.local.bytes() && self.space.bytes() == other.space.bytes()
+    }
 }
