@@ -5,8 +5,8 @@ ghost use Rattle.std.specs.List.{position_or_len};
 ghost use Rattle.xmp_edit.specs.Paths.{is_name, is_colon, split_name, hinted_space, space_of, same_name, is_reserved, one_name};
 
 use known_prefixes::known_space;
-use xmp_tree::{is_note, is_rdf_space, is_xml_space};
-use xmp_values::{Hints, Name, Rule, Text};
+use xmp_tree::is_note;
+use xmp_values::{Hints, Name, Rule, Text, is_rdf_space, is_xml_space};
 
 /// Whether the bytes are a name without colon.
 fn is_name(bytes: &[u8]) -> bool

@@ -1,35 +1,12 @@
 //! Which names a tree may have.
 ghost use Rattle.std.specs.Prelude.{◌≡◌, ◌≢◌, ◌↔◌, AllPairs, IsTrue, IfOk};
-ghost use Rattle.xmp_values.specs.Hints.{xmlns_space};
-ghost use Rattle.xmp_tree.specs.Wf.{NamesDiffer, IsNamed, IsOwnSpace, rdf_space, xml_space, lang_name, type_name, note_name};
+ghost use Rattle.xmp_tree.specs.Wf.{NamesDiffer, IsNamed, IsOwnSpace, lang_name, type_name, note_name};
 
 use crate::nested::Member;
 use std::alloc::Global;
-use xmp_values::{Memory, Name, is_char_text, is_name, names_differ};
-
-/// Whether the namespace is that of RDF's syntax.
-#[tactic(auto, unfolding(xmp_values::specs::Spaces::rdf_space))]
-pub fn is_rdf_space(space: &[u8]) -> bool
-    ensures { IsTrue result ↔ (space.now ≡ rdf_space) }
-{
-    space == b"http://www.w3.org/1999/02/22-rdf-syntax-ns#".as_slice()
-}
-
-/// Whether the namespace is that of `xml:lang`.
-#[tactic(auto, unfolding(xmp_values::specs::Spaces::xml_space))]
-pub fn is_xml_space(space: &[u8]) -> bool
-    ensures { IsTrue result ↔ (space.now ≡ xml_space) }
-{
-    space == b"http://www.w3.org/XML/1998/namespace".as_slice()
-}
-
-/// Whether the namespace is that of `xmlns`.
-#[tactic(auto, unfolding(xmp_values::specs::Spaces::xmlns_space))]
-pub fn is_xmlns_space(space: &[u8]) -> bool
-    ensures { IsTrue result ↔ (space.now ≡ xmlns_space) }
-{
-    space == b"http://www.w3.org/2000/xmlns/".as_slice()
-}
+use xmp_values::{
+    Memory, Name, is_char_text, is_name, is_rdf_space, is_xml_space, is_xmlns_space, names_differ,
+};
 
 /// Whether the namespace is one that properties and fields may have.
 pub fn is_own_space(space: &[u8]) -> bool
