@@ -1,4 +1,3 @@
-pub mod Calls
 pub mod Exchanges
 pub mod Faults
 pub mod Found

@@ -6,6 +6,7 @@ use Rattle.std.proofs.lemmas.List.{length-append, append-nil}
 use Rattle.std.proofs.lemmas.Bool.Decides.{nat_tests}
 use Rattle.std.proofs.lemmas.List.Elements.{All-append, All-nil}
 use Rattle.xmp_base.specs.Device.{DeskState, Moved, Told, bytes_of}
+use Rattle.xmp_base.specs.Windows.{ReadInside}
 use Rattle.jpeg_regions.specs.declared.marker.Class.{Class}
 use Rattle.jpeg_regions.specs.declared.marker.Class.TheVariants.{Fill, Refused, Single, Last, Sized}
 use Rattle.jpeg_regions.specs.declared.reading.Found.{Found}
@@ -17,8 +18,8 @@ use Rattle.jpeg_regions.specs.Wanted.{count_of}
 use Rattle.jpeg_regions.specs.Jpeg.{Segment, Region, text, region, region_by, placed, IsInner, IsTail, HasLength, Cuts}
 use Rattle.jpeg_regions.specs.Reads.{Reads}
 use Rattle.jpeg_regions.specs.Cutting.{Underway}
-use Rattle.jpeg_regions.specs.FromDesk.{near_end, IsNear, CutCalls, ReadsOnly}
-use Rattle.jpeg_regions.proofs.Calls.{same_trans, counts_trans}
+use Rattle.jpeg_regions.specs.FromDesk.{near_end, IsNear, CutCalls}
+use Rattle.xmp_base.proofs.Calls.{same_trans, counts_trans}
 use Rattle.jpeg_regions.proofs.Found.{length-text}
 use Rattle.jpeg_regions.proofs.Unique.{IsSegment, run_unique, run_below, not_fill, sized_not_fill, marker_ends, text-append, begins_list}
 use Rattle.jpeg_regions.proofs.Faults.{sized_body}
@@ -133,7 +134,7 @@ calls_none s name = record {
 }
 
 pub calls_more : (s t u : DeskState) (name : List ℕ) (found : List Found) (start at len : ℕ) (wants : Wants) → CutCalls s t name
-    → ReadsOnly t u name at (at + min (count_of wants) (len - at)) → start ≤ at
+    → ReadInside t u name at (at + min (count_of wants) (len - at)) → start ≤ at
     → Told s.files (λ files. Underway (bytes_of files name) found start × Reads (bytes_of files name) start at wants) → CutCalls s u name
 calls_more s t u name found start at len wants a b order so_far = record {
   same = same_trans s t u a.same b.same;
@@ -144,9 +145,9 @@ calls_more s t u name found start at len wants a b order so_far = record {
         let n = b.reads (reads ++ m.0) m.1 in (
           m.0 ++ n.0,
           n.1 ∙ ap Some (append_assoc reads m.0 n.0),
-          All-append (λ (m : Moved). m.0 ≡ name) m.0 n.0 m.2 (λ k d h. (n.2 k d h).0),
+          All-append (λ (m : Moved). m.0 ≡ name) m.0 n.0 m.2 (λ k d h. (n.2 k d h).of_name),
           λ files ftold regions cuts. All-append (IsNear regions) m.0 n.0 (m.3 files ftold regions cuts)
-              (λ k d h. near_wanted (bytes_of files name) found start at len wants regions (get_or n.0 k d) (so_far files ftold).0 (so_far files ftold).1 cuts (n.2 k d h).1 (n.2 k d h).2 order),
+              (λ k d h. near_wanted (bytes_of files name) found start at len wants regions (get_or n.0 k d) (so_far files ftold).0 (so_far files ftold).1 cuts (n.2 k d h).from_start (n.2 k d h).to_end order),
         );
   };
 }

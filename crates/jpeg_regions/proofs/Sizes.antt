@@ -13,7 +13,7 @@ use Rattle.jpeg_regions.specs.declared.from_desk.CutStop.TheVariants.{Fault, Dev
 use Rattle.jpeg_regions.specs.Jpeg.{Region}
 use Rattle.jpeg_regions.specs.Cutting.{BeginsJpeg, Tiles}
 use Rattle.jpeg_regions.specs.FromDesk.{CutCalls, CutFromAnswer, CutFromCall}
-use Rattle.jpeg_regions.proofs.Calls.{same_trans, counts_trans, rose_after}
+use Rattle.xmp_base.proofs.Calls.{same_trans, counts_trans, rose_after}
 use Rattle.jpeg_regions.proofs.Near.{calls_none}
 
 -- the file's length, where it is told

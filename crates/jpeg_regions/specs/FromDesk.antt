@@ -1,9 +1,8 @@
 -- What cutting a file of a device does and answers.
-use Rattle.std.specs.Prelude.{◌≡◌, ℕ, ◌+◌, ◌≤◌, min, List, ◌++◌, length, take, drop, All, MatchResult, OnOk, IfOk, IsTrue, slice_get, Ok, Err, Some}
+use Rattle.std.specs.Prelude.{◌≡◌, ℕ, ◌+◌, ◌≤◌, min, List, ◌++◌, All, IfOk, IsTrue, slice_get, Ok, Err, Some}
 use Rattle.std.specs.declared.option.Option.{Option}
 use Rattle.std.specs.declared.result.Result.{Result}
 use Rattle.xmp_base.specs.Device.{DeskState, Told, Moved, Rose, SameFiles, NotFewer, OthersKeep, bytes_of, is_known, len_of}
-use Rattle.xmp_base.specs.declared.device.Failed.{Failed}
 use Rattle.jpeg_regions.specs.declared.reading.Found.{Found}
 use Rattle.jpeg_regions.specs.declared.reading.Reading.{Reading}
 use Rattle.jpeg_regions.specs.declared.from_desk.CutStop.{CutStop}
@@ -30,28 +29,6 @@ IsNear regions m = (i : ℕ) × (r : Region) × (slice_get regions i ≡ Some r)
 pub record ReadsNear (s t : DeskState) (name : List ℕ) : Type 0 where
   pub named : Told s.reads (λ reads. (more : List Moved) × (t.reads ≡ Some (reads ++ more)) × All (λ m. m.0 ≡ name) more
       × Told s.files (λ files. (regions : List Region) → Cuts (bytes_of files name) regions → All (λ m. IsNear regions m) more))
-
--- reads of this name inside a range were added
-abbrev pub ReadsWithin : List ℕ → ℕ → ℕ → Option (List Moved) → Option (List Moved) → Type 0
-ReadsWithin name start end old new = Told old (λ reads. (more : List Moved) × (new ≡ Some (reads ++ more))
-    × All (λ m. (m.0 ≡ name) × (start ≤ m.1) × (m.1 + m.2 ≤ end)) more)
-
--- some calls that read this name inside a range, and change nothing
-pub record ReadsOnly (s t : DeskState) (name : List ℕ) (start end : ℕ) : Type 0 where
-  pub same : SameFiles s t
-  pub counts : NotFewer s t
-  pub lens : t.lens ≡ s.lens
-  pub reads : ReadsWithin name start end s.reads t.reads
-
--- the first bytes of the slice are those of the file from a place on
-pub record FilledFrom (s t : DeskState) (name : List ℕ) (at size done : ℕ) (to : List ℕ) : Type 0 where
-  pub calls : ReadsOnly s t name at (at + size)
-  pub bytes : Told s.files (λ files. take done to ≡ take done (drop at (bytes_of files name)))
-
-pub record FillCall (s t : DeskState) (name : List ℕ) (at : ℕ) (to : List ℕ) (result : Result (Unit {0}) Failed) : Type 0 where
-  pub calls : ReadsOnly s t name at (at + length to)
-  pub bytes : OnOk result (Told s.files (λ files. to ≡ take (length to) (drop at (bytes_of files name))))
-  pub failed : MatchResult result (λ _. Unit {0}) (λ _. Rose s.faults t.faults)
 
 -- what a piece more of a file leads to
 abbrev pub AdvanceAnswer : List ℕ → List Found → Result (Option Reading) CutStop → Type 0

@@ -1,16 +1,17 @@
 //! Cutting a file of a device, which keeps the picture where it is.
 ghost use Rattle.std.specs.Prelude.{◌≡◌, ℕ, ◌+◌, ◌-◌, ◌≤◌, ◌<◌, ◌^◌, List, length, IfOk, IsTrue, min, Err, Some};
 ghost use Rattle.xmp_base.specs.Device.{Told, Rose, bytes_of, is_known, len_of};
+ghost use Rattle.xmp_base.specs.Windows.{ReadInside};
 ghost use Rattle.jpeg_regions.specs.Jpeg.{Cuts};
 ghost use Rattle.jpeg_regions.specs.Wanted.{count_of};
 ghost use Rattle.jpeg_regions.specs.Cutting.{BeginsJpeg, CutSoFar, Numbers, Tiles, left};
-ghost use Rattle.jpeg_regions.specs.FromDesk.{AdvanceAnswer, CutCalls, CutFromAnswer, CutFromCall, FillCall, ReadsOnly};
+ghost use Rattle.jpeg_regions.specs.FromDesk.{AdvanceAnswer, CutCalls, CutFromAnswer, CutFromCall};
 
 use crate::cutting::{JpegStop, take};
 use crate::list::Regions;
 use crate::reading::{Found, Reading};
 use std::alloc::Global;
-use xmp_base::{Desk, Failed, SizeStop};
+use xmp_base::{Desk, Failed, SizeStop, fill_from};
 use xmp_values::Rule;
 
 /// Why a file of a device gives no list of regions.
@@ -24,20 +25,6 @@ pub enum CutStop {
     Memory,
 }
 
-/// Fills `to` with the file's bytes from `at` on.
-fn fill<D: Desk>(desk: &mut D, name: &str, at: u64, to: &mut [u8]) -> Result<(), Failed>
-    requires known { IsTrue (is_known (D.state desk.old) name.now) }
-    requires within { at + length to.old ≤ len_of (D.state desk.old) name.now }
-    requires room { at + length to.old < 2 ^ 64 }
-    ensures call { FillCall (D.state desk.old) (D.state desk.new) name.now at to.new result }
-{
-    let mut done = 0;
-    while done < to.len() {
-        done += desk.read_at(name, at + done as u64, &mut to[done..])?;
-    }
-    Ok(())
-}
-
 /// Reads the bytes that are wanted, and takes them.
 fn advance<D: Desk>(
     desk: &mut D,
@@ -48,7 +35,7 @@ fn advance<D: Desk>(
     requires known { IsTrue (is_known (D.state desk.old) name.now) }
     requires len { len_of (D.state desk.old) name.now ≡ reading.len }
     requires numbers { Numbers reading.len found.old.items (Some reading) }
-    ensures calls { ReadsOnly (D.state desk.old) (D.state desk.new) name.now reading.at
+    ensures calls { ReadInside (D.state desk.old) (D.state desk.new) name.now reading.at
         (reading.at + min (count_of reading.wants) (reading.len - reading.at)) }
     ensures less { IfOk result (λ next. left next < left (Some reading)) }
     ensures numbers { IfOk result (λ next. Numbers reading.len found.new.items next) }
@@ -59,7 +46,7 @@ fn advance<D: Desk>(
     let wanted = reading.wanted();
     let mut buffer = [0u8; 75];
     let piece = &mut buffer[..(wanted.end - wanted.start) as usize];
-    match fill(desk, name, wanted.start, piece) {
+    match fill_from(desk, name, wanted.start, piece) {
         Ok(()) => (),
         Err(Failed) => return Err(CutStop::Device),
     }

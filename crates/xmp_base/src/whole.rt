@@ -1,9 +1,7 @@
 // A whole file.
-ghost use Rattle.std.specs.Prelude.{◌≡◌, length, IsTrue};
-ghost use Rattle.xmp_base.specs.Device.{is_known, len_of};
-ghost use Rattle.xmp_base.specs.Whole.{FillCall, ReadAll};
+ghost use Rattle.xmp_base.specs.Whole.{ReadAll};
 
-use crate::{Desk, Failed, SizeStop};
+use crate::{Desk, Failed, SizeStop, fill_from};
 use std::alloc::Global;
 use xmp_values::Bytes;
 
@@ -44,21 +42,8 @@ pub fn read_all<D: Desk>(
     let Ok(mut items) = vec![in alloc; 0u8; size as usize] else {
         return Err(ReadStop::Memory);
     };
-    match fill(desk, name, items.as_mut_slice()) {
+    match fill_from(desk, name, 0, items.as_mut_slice()) {
         Ok(()) => Ok(Bytes::from_vec(items)),
         Err(Failed) => Err(ReadStop::Device),
     }
-}
-
-/// Fills a slice of the file's length with its bytes.
-fn fill<D: Desk>(desk: &mut D, name: &str, to: &mut [u8]) -> Result<(), Failed>
-    requires known { IsTrue (is_known (D.state desk.old) name.now) }
-    requires whole { length to.old ≡ len_of (D.state desk.old) name.now }
-    ensures call { FillCall (D.state desk.old) (D.state desk.new) name.now to.new result }
-{
-    let mut done = 0;
-    while done < to.len() {
-        done += desk.read_at(name, done as u64, &mut to[done..])?;
-    }
-    Ok(())
 }

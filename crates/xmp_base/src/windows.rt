@@ -1,7 +1,7 @@
 // Parts of a file.
 ghost use Rattle.std.specs.Prelude.{◌≡◌, ◌≢◌, ◌+◌, ◌<◌, ◌≤◌, ◌^◌, length, IsTrue};
 ghost use Rattle.xmp_base.specs.Device.{is_known, len_of};
-ghost use Rattle.xmp_base.specs.Windows.{FillFrom, WindowCall, AppendCall, CopyCall};
+ghost use Rattle.xmp_base.specs.Windows.{FillFrom, FilledOnce, WindowCall, AppendCall, CopyCall};
 
 use crate::{Desk, Failed};
 use std::alloc::Global;
@@ -40,12 +40,16 @@ pub fn window<D: Desk>(
     }
 }
 
-/// Fills a slice with the bytes of a file from `at` on.
-fn fill_from<D: Desk>(desk: &mut D, name: &str, at: u64, to: &mut [u8]) -> Result<(), Failed>
+/// Fills a slice with the bytes of a file from `at` on, which it has.
+///
+/// # Errors
+/// `Failed` after a failure that the desk counted. The slice then holds anything.
+pub fn fill_from<D: Desk>(desk: &mut D, name: &str, at: u64, to: &mut [u8]) -> Result<(), Failed>
     requires known { IsTrue (is_known (D.state desk.old) name.now) }
     requires within { at + length to.old ≤ len_of (D.state desk.old) name.now }
     requires fits { at + length to.old < 2 ^ 64 }
     ensures call { FillFrom (D.state desk.old) (D.state desk.new) name.now at to.new result }
+    ensures once { FilledOnce result name.now at (length to.new) (D.state desk.old).reads (D.state desk.new).reads }
 {
     let mut done = 0;
     while done < to.len() {
