@@ -5,8 +5,12 @@
 
 PROGRAM is a built `xmp` (crates/xmp/out/xmp after `rt run`). For each shape and size in MiB it
 prints the least time of the runs, the peak of memory, and how time grows from one size to the
-next. `xmllint`, `exempi`, `exiv2` and `exiftool` are measured where they are installed.
-Nothing of this is in the gate.
+next. The first lines are of a small sidecar, which is run many times: their time is that of one
+run less that of `/bin/true`, which does nothing. `xmllint`, `exempi`, `exiv2` and `exiftool` are
+measured where they are installed. Nothing of this is in the gate.
+
+The peak is what `/usr/bin/time` (GNU time) reports, or `-` where it isn't installed. A process that
+Python starts itself would report at least Python's own memory.
 """
 
 import argparse
@@ -19,8 +23,12 @@ import time
 
 from sidecars import SHAPES
 
+HERE = os.path.dirname(os.path.abspath(__file__))
 MIB = 1 << 20
-SECONDS = 120
+SECONDS = 300
+SMALL_RUNS = 500
+GNU_TIME = shutil.which("time", path="/usr/bin:/bin")
+QUIET = {"stdout": subprocess.DEVNULL, "stderr": subprocess.DEVNULL}
 
 
 def tools(program: str, path: str):
@@ -38,59 +46,83 @@ def tools(program: str, path: str):
             yield name, command
 
 
-def run_once(command) -> tuple:
-    """Seconds of wall time, kilobytes at the peak, and the exit status or None after too long."""
+def seconds_of(command, times: int = 1):
+    """Seconds of a run, as a mean of several in one shell; None after too long."""
+    loop = f'n=0; while [ $n -lt {times} ]; do "$@" >/dev/null 2>&1; n=$((n+1)); done'
     began = time.perf_counter()
-    process = subprocess.Popen(command, stdout=subprocess.DEVNULL, stderr=subprocess.DEVNULL)
-    deadline = began + SECONDS
-    while True:
-        pid, status, usage = os.wait4(process.pid, os.WNOHANG)
-        if pid:
-            return time.perf_counter() - began, usage.ru_maxrss, os.waitstatus_to_exitcode(status)
-        if time.perf_counter() > deadline:
-            process.kill()
-            os.wait4(process.pid, 0)
-            return SECONDS, 0, None
-        time.sleep(0.0002)
+    try:
+        subprocess.run(["sh", "-c", loop, "sh", *command], timeout=SECONDS, check=False, **QUIET)
+    except subprocess.TimeoutExpired:
+        return None
+    return (time.perf_counter() - began) / times
 
 
-def least(command, runs: int) -> tuple:
-    """The run of the least time."""
-    return min((run_once(command) for _ in range(runs)), key=lambda result: result[0])
+def peak_of(command):
+    """Kilobytes at the peak and the exit status, or None for what can't be told."""
+    if GNU_TIME is None:
+        return None, subprocess.run(command, check=False, **QUIET).returncode
+    with tempfile.NamedTemporaryFile("r") as told:
+        measured = [GNU_TIME, "-q", "-o", told.name, "-f", "%M", *command]
+        status = subprocess.run(measured, check=False, **QUIET).returncode
+        return int(told.read().split()[-1]), status
 
 
-def line(shape: str, size: float, name: str, result: tuple, before) -> str:
-    seconds, peak, status = result
+def line(shape: str, size: float, name: str, seconds, peak, status, before) -> str:
+    """One line of the report."""
+    if seconds is None:
+        return f"{shape:18} {size:9.4f} MiB  {name:9} too long"
     growth = f"{seconds / before:5.2f}" if before else "    -"
-    ended = "too long" if status is None else f"exit {status}"
-    return f"{shape:18} {size:7.3f} MiB  {name:9} {seconds * 1000:10.2f} ms {peak / 1024:9.1f} MB  growth {growth}  {ended}"
+    memory = "-" if peak is None else f"{peak / 1024:.1f}"
+    return f"{shape:18} {size:9.4f} MiB  {name:9} {seconds * 1000:10.2f} ms {memory:>9} MB  growth {growth}  exit {status}"
+
+
+def make(shape: str, size: int, path: str):
+    """Writes a sidecar, by a process of its own, which leaves this one small."""
+    subprocess.run([sys.executable, os.path.join(HERE, "sidecars.py"), shape, str(size), path], check=True)
 
 
 def measure(program: str, folder: str, shape: str, sizes, runs: int):
+    """One shape at each size."""
     before = {}
     for size in sizes:
         path = os.path.join(folder, f"{shape}-{size}.xmp")
-        with open(path, "wb") as file:
-            file.write(SHAPES[shape](int(size * MIB)))
+        make(shape, int(size * MIB), path)
         for name, command in tools(program, path):
-            result = least(command, runs)
-            print(line(shape, os.path.getsize(path) / MIB, name, result, before.get(name)), flush=True)
-            before[name] = result[0]
+            taken = [seconds_of(command) for _ in range(runs)]
+            seconds = None if None in taken else min(taken)
+            peak, status = peak_of(command) if seconds is not None else (None, None)
+            print(line(shape, os.path.getsize(path) / MIB, name, seconds, peak, status, before.get(name)), flush=True)
+            before[name] = seconds
         os.remove(path)
+
+
+def measure_start(program: str, folder: str, runs: int):
+    """Start-up: a small sidecar, many times."""
+    path = os.path.join(folder, "small.xmp")
+    make("ordinary", 500, path)
+    idle = min(seconds_of(["/bin/true"], SMALL_RUNS) for _ in range(runs))
+    for name, command in tools(program, path):
+        seconds = min(seconds_of(command, SMALL_RUNS) for _ in range(runs)) - idle
+        peak, status = peak_of(command)
+        print(line("start-up", os.path.getsize(path) / MIB, name, seconds, peak, status, None), flush=True)
 
 
 def main():
     parser = argparse.ArgumentParser(description=__doc__, formatter_class=argparse.RawDescriptionHelpFormatter)
     parser.add_argument("program")
-    parser.add_argument("--sizes", default="0.001,4,8", help="in MiB, the smallest first")
+    parser.add_argument("--sizes", default="4,8", help="in MiB, the smallest first")
     parser.add_argument("--shape", choices=sorted(SHAPES), help="this shape alone")
     parser.add_argument("--runs", type=int, default=5)
     given = parser.parse_args()
+    program = os.path.abspath(given.program)
     sizes = [float(size) for size in given.sizes.split(",")]
-    shapes = [given.shape] if given.shape else list(SHAPES)
     with tempfile.TemporaryDirectory() as folder:
-        for shape in shapes:
-            measure(os.path.abspath(given.program), folder, shape, sizes, given.runs)
+        measure_start(program, folder, given.runs)
+        # 20,000 properties in 5 MB, and twice as many.
+        if given.shape in (None, "ordinary"):
+            measure(program, folder, "ordinary", [5e6 / MIB, 1e7 / MIB], given.runs)
+        for shape in [given.shape] if given.shape else SHAPES:
+            measure(program, folder, shape, sizes, given.runs)
 
 
 if __name__ == "__main__":

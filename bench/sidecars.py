@@ -1,7 +1,12 @@
+#!/usr/bin/env python3
 """Sidecars for the measurements: hostile shapes and large ordinary ones.
+
+    bench/sidecars.py SHAPE BYTES FILE
 
 Each function gives the bytes of a sidecar of about `size` bytes. `SHAPES` names them.
 """
+
+import sys
 
 RDF = "http://www.w3.org/1999/02/22-rdf-syntax-ns#"
 HEAD = f'<rdf:RDF xmlns:rdf="{RDF}">\n<rdf:Description rdf:about="" xmlns:a="urn:a"'
@@ -62,6 +67,19 @@ def long_names(size: int) -> bytes:
     return document(inside)
 
 
+def long_namespaces(size: int) -> bytes:
+    """Two namespaces of a quarter of the size each that differ at their ends, and a few properties in each."""
+    front = "urn:" + "x" * (size // 4)
+    declared = f' xmlns:b="{front}1" xmlns:c="{front}2"'
+    return document("".join(f"<b:p{n}/><c:p{n}/>" for n in range(100)), declared)
+
+
+def owned_namespace(size: int) -> bytes:
+    """A namespace of 64 KiB, one of its characters as a reference, and as many properties in it as fit."""
+    declared = ' xmlns:b="urn:&amp;' + "x" * min(65_536, size // 2) + '"'
+    return document(numbered(lambda n: f"<b:p{n}/>", size), declared)
+
+
 def deep_declarations(size: int) -> bytes:
     """98 levels, each with many declarations. The text is XML; as RDF it goes too deep."""
     count = max(1, size // (98 * 24))
@@ -97,8 +115,15 @@ SHAPES = {
     "references": references,
     "brackets": brackets,
     "long-names": long_names,
+    "long-namespaces": long_namespaces,
+    "owned-namespace": owned_namespace,
     "deep-declarations": deep_declarations,
     "ordinary": ordinary,
     "one-bag": one_bag,
     "one-struct": one_struct,
 }
+
+
+if __name__ == "__main__":
+    with open(sys.argv[3], "wb") as file:
+        file.write(SHAPES[sys.argv[1]](int(sys.argv[2])))
