@@ -9,3 +9,4 @@ pub mod LineLevels
 pub mod WritingSteps
 pub mod ValidHints
 pub mod FreeNumbers
+pub mod ShownRuns

@@ -1,6 +1,7 @@
 //! The lines that show a tree: `PATH KIND REST`, each ended by LF.
-ghost use Rattle.std.specs.Prelude.{◌≡◌, ◌++◌, codes, decimal, IfOk, OnOk};
+ghost use Rattle.std.specs.Prelude.{◌≡◌, ◌++◌, ◌∷◌, [], codes, decimal, unwrap_or, IfOk, OnOk};
 ghost use Rattle.std.specs.List.{flat_map};
+ghost use Rattle.std.specs.Option.{option_copied};
 ghost use Rattle.xmp_tree.specs.declared.nested.Shape.{out-Shape};
 ghost use Rattle.xmp_write.specs.Writing.{Adds, items_from};
 ghost use Rattle.xmp_write.specs.Lines.{shown, shown_byte, spelled, shape_word, kind_word, value_lines, shape_lines, member_lines, item_path, lines};
@@ -19,27 +20,33 @@ struct Writer {
     path: Vec<u8>,
 }
 
-/// Puts a byte at the end, or what stands for it on a line.
-fn push_shown_byte(out: &mut Vec<u8>, byte: u8) -> Result<(), Memory>
-    ensures { OnOk result (out.new.items ≡ out.old.items ++ shown_byte byte) }
+/// What stands for a byte on a line; none where the byte stands for itself.
+fn escape(byte: u8) -> Option<&'static [u8]>
+    ensures { unwrap_or (option_copied result) (byte ∷ []) ≡ shown_byte byte }
 {
     match byte {
-        b'\\' => out.extend_from_slice(b"\\\\")?,
-        b'\n' => out.extend_from_slice(b"\\n")?,
-        b'\r' => out.extend_from_slice(b"\\r")?,
-        b'\t' => out.extend_from_slice(b"\\t")?,
-        _ => out.push(byte)?,
+        b'\\' => Some(b"\\\\"),
+        b'\n' => Some(b"\\n"),
+        b'\r' => Some(b"\\r"),
+        b'\t' => Some(b"\\t"),
+        _ => None,
     }
-    Ok(())
 }
 
-/// Puts a text at the end, so that it stays on its line.
+/// Puts a text at the end, so that it stays on its line. What stands for itself is put there by
+/// runs, each up to the next byte that doesn't.
 fn push_shown(out: &mut Vec<u8>, text: &[u8]) -> Result<(), Memory>
     ensures { OnOk result (out.new.items ≡ out.old.items ++ shown text.now) }
 {
-    for byte in text {
-        push_shown_byte(out, *byte)?;
+    let mut from = 0;
+    for at in 0..text.len() {
+        if let Some(escape) = escape(text[at]) {
+            out.extend_from_slice(&text[from..at])?;
+            out.extend_from_slice(escape)?;
+            from = at + 1;
+        }
     }
+    out.extend_from_slice(&text[from..])?;
     Ok(())
 }
 
