@@ -5,13 +5,13 @@ use Rattle.std.specs.Str.{bytes_eq}
 use Rattle.std.specs.BTreeMap.{BTreeMap, UpdatesBy}
 use Rattle.std.specs.BTreeSet.{BTreeSet}
 use Rattle.std.specs.BTreeSet as set
-use Rattle.std.proofs.lemmas.List.{map-append, take_more, drop_more}
+use Rattle.std.proofs.lemmas.List.{take_more, drop_more}
 use Rattle.std.proofs.lemmas.List.Folds.{list_any-append}
 use Rattle.std.proofs.lemmas.Map.Text.{btree_map_updates_str}
 use Rattle.xmp_values.specs.declared.hints.Hint.{Hint}
 use Rattle.xmp_write.specs.Prefixes.{has_prefix}
 use Rattle.xmp_write.specs.Texts.{has_text, text_in}
-use Rattle.xmp_write.specs.Hinted.{hints_of, HasSpaces, HasPrefixes}
+use Rattle.xmp_write.specs.Hinted.{HasSpaces, HasPrefixes}
 use Rattle.xmp_write.proofs.TextSets.{key_cmp, bytes_eq-sym, has_text-more, at_end}
 
 copied_here : (here : Bool) (prefix : Bor (List ℕ)) (rest : Option (Bor (List ℕ))) → option_copied (cond here (Some prefix) rest) ≡ cond here (Some prefix.now) (option_copied rest)
@@ -39,12 +39,9 @@ prefixes_behind hs h key old new keyed has updates text =
     ∙ sym (list_any-append (λ h. bytes_eq text h.prefix) hs (h ∷ []))
 
 -- one hint more of a list, from its front and from its end
-module _ (list : List (Bor Hint)) (i : ℕ) (hint : Bor Hint) (within : i < length list) (here : hint ≡ get_or list i hint) where
-  pub hints_of-take : hints_of (take (i + 1) list) ≡ hints_of (take i list) ++ hint.now ∷ []
-  hints_of-take =
-      ap hints_of (take_more list i hint within ∙ ap (λ h. take i list ++ h ∷ []) (sym here))
-      ∙ map-append (λ h. h.now) (take i list) (hint ∷ [])
+module _ (list : List Hint) (i : ℕ) (hint : Hint) (within : i < length list) (here : hint ≡ get_or list i hint) where
+  pub hint-take : take (i + 1) list ≡ take i list ++ hint ∷ []
+  hint-take = take_more list i hint within ∙ ap (λ h. take i list ++ h ∷ []) (sym here)
 
-  pub hints_of-drop : (j : ℕ) → j ≡ i + 1 → hints_of (drop i list) ≡ hint.now ∷ hints_of (drop j list)
-  hints_of-drop j next =
-      ap hints_of (drop_more list i hint within ∙ ap (λ h. h ∷ drop (i + 1) list) (sym here) ∙ ap (λ k. hint ∷ drop k list) (sym next))
+  pub hint-drop : (j : ℕ) → j ≡ i + 1 → drop i list ≡ hint ∷ drop j list
+  hint-drop j next = drop_more list i hint within ∙ ap (λ h. h ∷ drop (i + 1) list) (sym here) ∙ ap (λ k. hint ∷ drop k list) (sym next)

@@ -1,5 +1,5 @@
 -- What the maps over a list of hints hold.
-use Rattle.std.specs.Prelude.{◌≡◌, ℕ, List, map}
+use Rattle.std.specs.Prelude.{◌≡◌, ℕ, List}
 use Rattle.std.specs.Option.{option_copied}
 use Rattle.std.specs.Borrow.{Bor}
 use Rattle.std.specs.BTreeMap.{BTreeMap}
@@ -7,9 +7,6 @@ use Rattle.std.specs.BTreeSet.{BTreeSet}
 use Rattle.xmp_values.specs.declared.hints.Hint.{Hint}
 use Rattle.xmp_write.specs.Prefixes.{prefix_in, has_prefix}
 use Rattle.xmp_write.specs.Texts.{has_text, text_in}
-
-abbrev pub hints_of : List (Bor Hint) → List Hint
-hints_of = map (λ h. h.now)
 
 -- the prefix of each namespace
 abbrev pub HasSpaces : BTreeMap (Bor (List ℕ)) (Bor (List ℕ)) → List Hint → Type 0

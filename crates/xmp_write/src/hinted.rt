@@ -2,7 +2,7 @@
 ghost use Rattle.std.specs.Prelude.{◌≡◌, ◌<◌, ◌^◌, IfOk, length};
 ghost use Rattle.std.specs.Option.{option_copied};
 ghost use Rattle.xmp_write.specs.Prefixes.{prefix_in, has_prefix};
-ghost use Rattle.xmp_write.specs.Hinted.{hints_of, HasSpaces, HasPrefixes};
+ghost use Rattle.xmp_write.specs.Hinted.{HasSpaces, HasPrefixes};
 
 use std::alloc::Global;
 use std::collections::{BTreeMap, BTreeSet};
@@ -12,7 +12,7 @@ use xmp_values::{Hint, Hints, Memory};
 /// Hints by their namespaces and by their prefixes. A look-up costs the logarithm of their number.
 #[derive(Drop)]
 pub struct Hinted<'h> {
-    list: Vec<&'h Hint>,
+    list: &'h [Hint],
     prefixes: BTreeMap<&'h [u8], &'h [u8]>,
     taken: BTreeSet<&'h [u8]>,
 }
@@ -20,46 +20,33 @@ pub struct Hinted<'h> {
 impl<'h> Model for Hinted<'h> {
     ghost use Rattle.std.specs.Prelude.{List};
     ghost use Rattle.xmp_values.specs.declared.hints.Hint.{Hint};
-    ghost use Rattle.xmp_write.specs.Hinted.{hints_of, HasSpaces, HasPrefixes};
+    ghost use Rattle.xmp_write.specs.Hinted.{HasSpaces, HasPrefixes};
 
     ghost Value = { List Hint };
 
-    ghost view = { λ h. hints_of h.list.items };
+    ghost view = { λ h. h.list.now };
 
-    ghost invariant = { λ h. HasSpaces h.prefixes (hints_of h.list.items) × HasPrefixes h.taken (hints_of h.list.items) };
-}
-
-/// The hints one by one.
-fn hint_list<'h>(alloc: Global, hints: &'h Hints) -> Result<Vec<&'h Hint>, Memory>
-    ensures { IfOk result (λ list. hints_of list.items ≡ hints.now) }
-{
-    let mut list = Vec::new(alloc);
-    for at in 0..hints.len() {
-        if let Some(hint) = hints.get(at) {
-            list.push(hint)?;
-        }
-    }
-    Ok(list)
+    ghost invariant = { λ h. HasSpaces h.prefixes h.list.now × HasPrefixes h.taken h.list.now };
 }
 
 /// The prefix of each namespace. They are put in from the last hint on, so that the first of a
 /// namespace counts.
-fn prefix_map<'h>(alloc: Global, hints: &[&'h Hint]) -> Result<BTreeMap<&'h [u8], &'h [u8]>, Memory>
-    ensures { IfOk result (λ map. HasSpaces map (hints_of hints.now)) }
+fn prefix_map<'h>(alloc: Global, hints: &'h [Hint]) -> Result<BTreeMap<&'h [u8], &'h [u8]>, Memory>
+    ensures { IfOk result (λ map. HasSpaces map hints.now) }
 {
     let mut map = BTreeMap::new(alloc);
     let mut at = hints.len();
     while at > 0 {
         at -= 1;
-        let hint = hints[at];
+        let hint = &hints[at];
         map.insert(hint.space.as_slice(), hint.prefix.as_slice())?;
     }
     Ok(map)
 }
 
 /// The prefixes.
-fn prefix_set<'h>(alloc: Global, hints: &[&'h Hint]) -> Result<BTreeSet<&'h [u8]>, Memory>
-    ensures { IfOk result (λ set. HasPrefixes set (hints_of hints.now)) }
+fn prefix_set<'h>(alloc: Global, hints: &'h [Hint]) -> Result<BTreeSet<&'h [u8]>, Memory>
+    ensures { IfOk result (λ set. HasPrefixes set hints.now) }
 {
     let mut set = BTreeSet::new(alloc);
     for hint in hints {
@@ -73,9 +60,9 @@ impl<'h> Hinted<'h> {
     pub fn new(alloc: Global, hints: &'h Hints) -> Result<Hinted<'h>, Memory>
         ensures { IfOk result (λ h. h ≡ hints.now) }
     {
-        let list = hint_list(alloc, hints)?;
-        let prefixes = prefix_map(alloc, list.as_slice())?;
-        let taken = prefix_set(alloc, list.as_slice())?;
+        let list = hints.as_slice();
+        let prefixes = prefix_map(alloc, list)?;
+        let taken = prefix_set(alloc, list)?;
         Ok(Hinted {
             list,
             prefixes,
@@ -88,7 +75,7 @@ impl<'h> Hinted<'h> {
         ensures count { result ≡ length self.now }
         ensures small { result < 2 ^ 62 }
     {
-        self.list.as_slice().len()
+        self.list.len()
     }
 
     /// The prefix that the first hint of a namespace gives it.

@@ -1,41 +1,26 @@
 //! Hints that are made by a test, for the tests.
-ghost use Rattle.std.specs.Prelude.{◌≡◌, ◌≢◌, ◌++◌, ◌∷◌, [], All, IsTrue, false};
-ghost use Rattle.std.specs.Option.{option_copied, option_map_or};
-ghost use Rattle.std.specs.Str.{bytes_eq};
+ghost use Rattle.std.specs.Prelude.{◌≢◌, ◌++◌, ◌∷◌, [], All, IsTrue};
 ghost use Rattle.xmp_values.specs.Hints.{IsValidHint, AreValid};
 
-use xmp_values::{Hint, Hints, Memory, is_char_text, is_name};
-
-/// Whether there is a hint, of the namespace.
-fn is_of(hint: Option<&Hint>, space: &[u8]) -> bool
-    ensures { result ≡ option_map_or (λ h. bytes_eq h.space space.now) (option_copied hint.entry) false }
-{
-    match hint {
-        Some(hint) => hint.space.as_slice() == space,
-        None => false,
-    }
-}
+use xmp_values::{Hint, Hints, Memory, is_char_text, is_name, is_xmlns_space};
 
 /// Whether no hint is of the namespace.
 fn is_new(hints: &Hints, space: &[u8]) -> bool
     ensures new { IsTrue result → All (λ h. h.space ≢ space.now) hints.now }
     ensures valid { AreValid hints.now }
 {
-    for at in 0..hints.len() {
-        if is_of(hints.get(at), space) {
-            return false;
-        }
-    }
-    true
+    hints
+        .as_slice()
+        .iter()
+        .all(|hint| hint.space.as_slice() != space)
 }
 
 /// Whether the hint is valid by itself.
-#[tactic(auto, unfolding(xmp_values::specs::Spaces::xmlns_space))]
 fn is_valid(hint: &Hint) -> bool
     ensures { IsTrue result → IsValidHint hint.now }
 {
     let space = hint.space.as_slice();
-    if space.is_empty() || space == b"http://www.w3.org/2000/xmlns/".as_slice() {
+    if space.is_empty() || is_xmlns_space(space) {
         return false;
     }
     is_char_text(space) && is_name(hint.prefix.as_slice())

@@ -1,11 +1,11 @@
 use Rattle.std.proofs.Common.{◌≤◌, length, drop}
-use Rattle.xmp_write.specs.Hinted.{hints_of, HasSpaces}
+use Rattle.xmp_write.specs.Hinted.{HasSpaces}
 use Rattle.xmp_write.proofs.hinted.prefix_map.Given as goal
 
 abbrev pub invariant-loop-at : goal.invariant-loop-at
 invariant-loop-at l = record {
   within : l.at ≤ length l.hints;
-  has : HasSpaces l.map (hints_of (drop l.at l.hints));
+  has : HasSpaces l.map (drop l.at l.hints);
 }
 
 abbrev pub decreases-loop-at : goal.decreases-loop-at
