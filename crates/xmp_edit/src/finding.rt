@@ -3,7 +3,6 @@ ghost use Rattle.std.specs.Prelude.{◌≡◌};
 ghost use Rattle.std.specs.Option.{option_copied};
 ghost use Rattle.xmp_edit.specs.Paths.{at, value_named};
 
-use crate::names::same_name;
 use crate::path::Path;
 use xmp_tree::{Member, Tree, Value};
 use xmp_values::Name;
@@ -13,7 +12,7 @@ fn value_named<'t, 'p>(members: &'t [Member<'p>], name: &Name<'_>) -> Option<&'t
     ensures { option_copied result ≡ value_named name.now members.now }
 {
     for member in members {
-        if same_name(&member.name, name) {
+        if member.name.is_same(name) {
             return Some(&member.value);
         }
     }

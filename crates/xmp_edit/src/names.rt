@@ -2,7 +2,7 @@
 ghost use Rattle.std.specs.Prelude.{◌≡◌, ◌≤◌, length, option_map};
 ghost use Rattle.std.specs.Option.{option_copied};
 ghost use Rattle.std.specs.List.{position_or_len};
-ghost use Rattle.xmp_edit.specs.Paths.{is_name, is_colon, split_name, hinted_space, space_of, same_name, is_reserved, one_name};
+ghost use Rattle.xmp_edit.specs.Paths.{is_name, is_colon, split_name, hinted_space, space_of, is_reserved, one_name};
 
 use known_prefixes::known_space;
 use xmp_tree::is_note;
@@ -49,11 +49,9 @@ fn split_name(text: &[u8]) -> Option<(&[u8], &[u8])>
 fn hinted_space<'h>(hints: &'h Hints, prefix: &[u8]) -> Option<&'h [u8]>
     ensures { option_copied result ≡ hinted_space hints.now prefix.now }
 {
-    for at in 0..hints.len() {
-        if let Some(hint) = hints.get(at) {
-            if prefix == hint.prefix.as_slice() {
-                return Some(hint.space.as_slice());
-            }
+    for hint in hints.as_slice() {
+        if prefix == hint.prefix.as_slice() {
+            return Some(hint.space.as_slice());
         }
     }
     None
@@ -67,13 +65,6 @@ fn space_of<'h>(hints: &'h Hints, prefix: &[u8]) -> Option<&'h [u8]>
         return Some(space);
     }
     hinted_space(hints, prefix)
-}
-
-/// Whether two names are the same.
-pub fn same_name(a: &Name<'_>, b: &Name<'_>) -> bool
-    ensures { result ≡ same_name a.now b.now }
-{
-    a.space.bytes() == b.space.bytes() && a.local.bytes() == b.local.bytes()
 }
 
 /// Whether no property may have the name.

@@ -1,5 +1,5 @@
 //! Paths.
-ghost use Rattle.std.specs.Prelude.{◌≡◌, IfOk};
+ghost use Rattle.std.specs.Prelude.{◌≡◌};
 ghost use Rattle.xmp_edit.specs.Paths.{one_name};
 ghost use Rattle.xmp_edit.specs.Answering.{Gives};
 
@@ -7,7 +7,8 @@ use crate::names::one_name;
 use crate::stops::PathStop;
 use std::alloc::Global;
 use std::marker::Model;
-use xmp_values::{Bytes, Hints, Memory, Name, Text};
+use xmp_tree::copy_name;
+use xmp_values::{Hints, Name};
 
 /// A place in a tree. It owns its texts.
 #[derive(Drop)]
@@ -26,21 +27,6 @@ impl Model for Path {
     ghost view = { λ p. p.name };
 }
 
-/// A text of its own with the same bytes.
-fn owned_text(alloc: Global, text: &Text<'_>) -> Result<Text<'static>, Memory>
-    ensures { IfOk result (λ t. t ≡ text.now) }
-{
-    Ok(Text::own(Bytes::from_slice(alloc, text.bytes())?))
-}
-
-fn owned_name(alloc: Global, name: &Name<'_>) -> Result<Name<'static>, Memory>
-    ensures { IfOk result (λ n. n ≡ name.now) }
-{
-    let space = owned_text(alloc, &name.space)?;
-    let local = owned_text(alloc, &name.local)?;
-    Ok(Name { space, local })
-}
-
 impl Path {
     /// The path of a text. Prefixes are looked up among the known ones, then in `hints`. A text
     /// that isn't `prefix:local` is `NotBuilt`, one whose prefix isn't found `UnknownPrefix`, and
@@ -50,7 +36,7 @@ impl Path {
     {
         match one_name(text, hints) {
             Ok(name) => {
-                let name = owned_name(alloc, &name)?;
+                let name = copy_name(alloc, &name)?;
                 Ok(Path { name })
             }
             Err(rule) => Err(PathStop::Fault(rule)),

@@ -3,7 +3,6 @@
 ghost use Rattle.std.specs.Prelude.{◌≡◌, ◌≢◌, AllPairs, ◌≤◌, ◌↔◌, IsTrue, IfOk, Any, All};
 ghost use Rattle.xmp_tree.specs.Wf.{name_of, value_of, IsWfValue, IsWfShape, IsWfMember, value_depth, shape_depth, member_depth, AreWithin, AreFields, AreQualifiers, IsQualifier, IsOwnSpace, AreWellFormed, AreWellFormedQualifiers, lang_name, IsPlain, IsPlainUri, note_name, Wf};
 
-use crate::equals::equal_names;
 use crate::naming::{are_apart, is_lang, is_named, is_note, is_own_space, is_type};
 use crate::nested::{Member, Shape, Value};
 use std::alloc::Global;
@@ -13,12 +12,7 @@ use xmp_values::{Memory, Name, Text, is_char_text};
 pub fn is_among(members: &[Member<'_>], name: &Name<'_>) -> bool
     ensures { IsTrue result ↔ Any (λ m. name_of m ≡ name.now) members.now }
 {
-    for member in members {
-        if equal_names(&member.name, name) {
-            return true;
-        }
-    }
-    false
+    members.iter().any(|member| member.name.is_same(name))
 }
 
 /// Whether the value is a simple text with no qualifier.
@@ -45,12 +39,9 @@ pub fn is_plain_uri(value: &Value<'_>) -> bool
 fn are_own(members: &[Member<'_>]) -> bool
     ensures { IsTrue result ↔ All (λ m. IsOwnSpace (name_of m).space) members.now }
 {
-    for member in members {
-        if !is_own_space(member.name.space.bytes()) {
-            return false;
-        }
-    }
-    true
+    members
+        .iter()
+        .all(|member| is_own_space(member.name.space.bytes()))
 }
 
 /// Whether the names may be those of properties or fields.
@@ -80,12 +71,7 @@ pub fn is_qualifier(member: &Member<'_>) -> bool
 fn are_each_qualifiers(members: &[Member<'_>]) -> bool
     ensures { IsTrue result ↔ All IsQualifier members.now }
 {
-    for member in members {
-        if !is_qualifier(member) {
-            return false;
-        }
-    }
-    true
+    members.iter().all(|member| is_qualifier(member))
 }
 
 /// Whether no member but the first is `xml:lang`.
@@ -203,12 +189,7 @@ pub fn are_well_formed_qualifiers(
 pub fn has_no_note(members: &[Member<'_>]) -> bool
     ensures { IsTrue result ↔ All (λ m. name_of m ≢ note_name) members.now }
 {
-    for member in members {
-        if is_note(&member.name) {
-            return false;
-        }
-    }
-    true
+    members.iter().all(|member| !is_note(&member.name))
 }
 
 /// Whether an about and properties make a tree that is well-formed.

@@ -12,6 +12,7 @@ pub fn copy_text<'q>(alloc: Global, text: &Text<'_>) -> Result<Text<'q>, Memory>
     Ok(Text::own(bytes))
 }
 
+/// An equal name that owns its texts.
 pub fn copy_name<'q>(alloc: Global, name: &Name<'_>) -> Result<Name<'q>, Memory>
     ensures { IfOk result (λ c. c ≡ name.now) }
 {

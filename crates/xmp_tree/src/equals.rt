@@ -2,18 +2,12 @@
 ghost use Rattle.std.specs.Prelude.{◌≡◌, ◌↔◌, IsTrue};
 
 use crate::nested::{Kind, Member, Shape, Value};
-use xmp_values::{Name, Text};
+use xmp_values::Text;
 
 pub fn equal_texts(a: &Text<'_>, b: &Text<'_>) -> bool
     ensures { IsTrue result ↔ (a.now ≡ b.now) }
 {
     a.bytes() == b.bytes()
-}
-
-pub fn equal_names(a: &Name<'_>, b: &Name<'_>) -> bool
-    ensures { IsTrue result ↔ (a.now ≡ b.now) }
-{
-    equal_texts(&a.space, &b.space) && equal_texts(&a.local, &b.local)
 }
 
 fn equal_kinds(a: Kind, b: Kind) -> bool
@@ -50,7 +44,7 @@ fn equal_shapes(a: &Shape<'_>, b: &Shape<'_>) -> bool
 fn equal_members_at(a: &Member<'_>, b: &Member<'_>) -> bool
     ensures { IsTrue result ↔ (a.now ≡ b.now) }
 {
-    equal_names(&a.name, &b.name) && equal_values(&a.value, &b.value)
+    a.name.is_same(&b.name) && equal_values(&a.value, &b.value)
 }
 
 /// Whether two lists have equal names and values in the same order.
