@@ -28,6 +28,13 @@ pub fn is_blank(c: char) -> bool
     matches!(c, '\t' | '\n' | '\r' | ' ')
 }
 
+/// White space, production 3, in UTF-8, where each of it is one byte.
+pub fn is_blank_byte(byte: u8) -> bool
+    ensures { result ≡ is_blank byte }
+{
+    is_blank(char::from(byte))
+}
+
 /// NameStartChar without the colon, production 4.
 #[tactic(auto, unfolding(crate::specs::Characters::is_name_start))]
 pub fn is_name_start(c: char) -> bool

@@ -19,7 +19,9 @@ mod span;
 mod text;
 mod words;
 
-pub use characters::{is_blank, is_char, is_char_text, is_name, is_name_char, is_name_start};
+pub use characters::{
+    is_blank, is_blank_byte, is_char, is_char_text, is_name, is_name_char, is_name_start,
+};
 pub use digits::{Digits, is_hex_digit};
 pub use faults::{Fault, Part, Place};
 pub use hints::{Hint, Hints};

@@ -44,7 +44,7 @@ fn prefix_map<'h>(alloc: Global, hints: &'h [Hint]) -> Result<BTreeMap<&'h [u8],
     Ok(map)
 }
 
-/// The prefixes.
+/// Every prefix, of whichever namespace.
 fn prefix_set<'h>(alloc: Global, hints: &'h [Hint]) -> Result<BTreeSet<&'h [u8]>, Memory>
     ensures { IfOk result (λ set. HasPrefixes set hints.now) }
 {

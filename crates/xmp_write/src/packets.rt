@@ -5,6 +5,8 @@ ghost use Rattle.std.specs.List.{suffix_len};
 ghost use Rattle.xmp_values.specs.Characters.{is_blank};
 ghost use Rattle.xmp_write.specs.Packets.{without_end, packet_text, is_packet_for_writing, is_writable};
 
+use xmp_values::is_blank_byte;
+
 /// What a payload holds as a packet.
 #[derive(Clone, Copy, Debug, PartialEq, Eq)]
 pub struct PacketInfo {
@@ -46,13 +48,6 @@ fn packet_text(payload: &[u8]) -> &[u8]
     &payload[..payload.len() - trailing_zeros(payload)]
 }
 
-#[tactic(auto, unfolding(xmp_values::specs::Characters::is_blank))]
-fn is_blank(byte: u8) -> bool
-    ensures { result ≡ is_blank byte }
-{
-    matches!(byte, b'\t' | b'\n' | b'\r' | b' ')
-}
-
 /// How many bytes of white space stand at the end.
 fn trailing_blanks(text: &[u8]) -> usize
     ensures count { result ≡ suffix_len is_blank text.now }
@@ -60,7 +55,7 @@ fn trailing_blanks(text: &[u8]) -> usize
 {
     text.iter()
         .rev()
-        .take_while(|byte| is_blank(**byte))
+        .take_while(|byte| is_blank_byte(**byte))
         .count()
 }
 

@@ -1,3 +1,4 @@
+//! Packets.
 use super::*;
 use std::test::Fail;
 

@@ -1,3 +1,4 @@
+//! Trees with the prefixes of their texts and with their lines.
 use super::*;
 use crate::valid_hints::push_if_valid;
 use std::alloc::Global;
