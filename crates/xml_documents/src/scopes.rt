@@ -1,9 +1,10 @@
 //! The declarations in force.
 
-ghost use Rattle.std.specs.Prelude.{◌≡◌, ◌||◌, [], ◌∷◌, ◌++◌, List, not, length, drop, map, is_some, IfOk};
+ghost use Rattle.std.specs.Prelude.{◌≡◌, ◌||◌, [], ◌∷◌, ◌++◌, ℕ, List, Option, not, length, drop, map, is_some, IfOk, if◌then◌else◌};
 ghost use Rattle.std.specs.Option.{option_copied};
-ghost use Rattle.xml_grammar.specs.Scopes.{Binding, predeclared, bound_to, expanded};
+ghost use Rattle.xml_grammar.specs.Scopes.{Binding, predeclared, same_prefix, bound_to, expanded};
 ghost use Rattle.xml_grammar.specs.Nesting.{has_twice};
+ghost use Rattle.xml_documents.specs.Places.{place_at};
 ghost use Rattle.xml_documents.specs.Scopes.{IsIndexed, scoped_in, mark_of};
 ghost use Rattle.xml_documents.specs.Tagging.{same_binding, same_attribute};
 
@@ -92,6 +93,8 @@ impl<'p> Scope<'p> {
         let outer = places.get(&prefix);
         let places = places.with(alloc, &prefix, Some(stack.len()))?;
         let (numbers, mark) = numbers.with(alloc, space.bytes())?;
+        // Each name that is in it gets it again.
+        let space = space.shared(alloc)?;
         stack.push(Scoped {
             prefix,
             space,
@@ -116,7 +119,7 @@ impl<'p> Scope<'p> {
         } = self;
         let places = match stack.pop() {
             None => places,
-            Some(last) => places.with(alloc, &last.prefix, last.outer)?,
+            Some(last) => restored(alloc, places, last)?,
         };
         Ok(Scope {
             stack,
@@ -192,6 +195,13 @@ impl<'p> Scope<'p> {
         }
         Ok(true)
     }
+}
+
+/// The places once this declaration, the innermost, is gone.
+fn restored(alloc: Global, places: Places, last: Scoped<'_>) -> Result<Places, Memory>
+    ensures { IfOk result (λ s. (q : Option (List ℕ)) → place_at s q ≡ (if same_prefix last.entry.prefix q then last.entry.outer else place_at places q)) }
+{
+    places.with(alloc, &last.prefix, last.outer)
 }
 
 /// The innermost declaration of a prefix.
