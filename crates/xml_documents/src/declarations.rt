@@ -8,7 +8,7 @@ ghost use Rattle.xml_documents.specs.Bounds.{bindings_in};
 
 use std::alloc::Global;
 use std::marker::Model;
-use xmp_values::{Bytes, Hint, Memory, Sequence, Text};
+use xmp_values::{Bytes, Hint, Memory, Sequence, Text, is_xml_space, is_xmlns_space};
 
 /// A prefix, or none for the default namespace, and what is bound to it.
 #[derive(Drop)]
@@ -122,16 +122,13 @@ fn with_hint(
 }
 
 /// A namespace that belongs to a prefix of its own.
-#[tactic(auto, unfolding(xml_grammar::specs::Scopes::xml_space, xmp_values::specs::Hints::xmlns_space))]
 fn is_reserved(space: &[u8]) -> bool
     ensures { result ≡ is_reserved space.now }
 {
-    space == b"http://www.w3.org/XML/1998/namespace".as_slice()
-        || space == b"http://www.w3.org/2000/xmlns/".as_slice()
+    is_xml_space(space) || is_xmlns_space(space)
 }
 
 /// Whether a declaration isn't allowed.
-#[tactic(auto, unfolding(xml_grammar::specs::Scopes::xml_space))]
 fn is_misbound(prefix: &Option<Text<'_>>, space: &[u8]) -> bool
     ensures { result ≡ is_misbound_to prefix.now space.now }
 {
@@ -141,7 +138,7 @@ fn is_misbound(prefix: &Option<Text<'_>>, space: &[u8]) -> bool
             if prefix.bytes() == b"xmlns".as_slice() {
                 true
             } else if prefix.bytes() == b"xml".as_slice() {
-                space != b"http://www.w3.org/XML/1998/namespace".as_slice()
+                !is_xml_space(space)
             } else {
                 is_reserved(space) || space == b"".as_slice()
             }

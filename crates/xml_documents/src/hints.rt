@@ -4,16 +4,7 @@ ghost use Rattle.std.specs.Prelude.{◌≡◌, ◌++◌, ◌∷◌, [], IfOk, if
 ghost use Rattle.xml_grammar.specs.Trees.{first_hints};
 
 use std::alloc::Global;
-use xmp_values::{Bytes, Hint, Memory, NameSet, Sequence};
-
-fn copied(alloc: Global, hint: &Hint) -> Result<Hint, Memory>
-    ensures { IfOk result (λ h. h ≡ hint.now) }
-{
-    Ok(Hint {
-        space: Bytes::from_slice(alloc, hint.space.as_slice())?,
-        prefix: Bytes::from_slice(alloc, hint.prefix.as_slice())?,
-    })
-}
+use xmp_values::{Hint, Memory, NameSet, Sequence};
 
 fn with_if(
     alloc: Global,
@@ -25,7 +16,7 @@ fn with_if(
 {
     let mut more = hints;
     if is_new {
-        more.push(copied(alloc, hint)?)?;
+        more.push(hint.again(alloc)?)?;
     }
     Ok(more)
 }
