@@ -1,6 +1,6 @@
 //! First faults with their places, and a document with its tree, by the standard.
 
-use crate::{XmlStop, read};
+use crate::{Doc, XmlStop, read};
 use std::alloc::Global;
 use std::test::Fail;
 use xml_grammar::{Attribute, Child, Element};
@@ -147,4 +147,26 @@ fn has_scopes(alloc: Global, text: &[u8]) -> bool {
 fn a_prefix_is_bound_anew_inside_an_element(rt: HostRuntime) {
     let text = b"<p:a xmlns:p='u'><p:b xmlns:p='v'><p:c/></p:b><p:d/></p:a>";
     assert!(rt; has_scopes(rt.alloc(), text));
+}
+
+/// Whether `a`, its attribute and `c` inside it are of `u&v`, which the one hint has with `p`.
+fn shares_a_space(doc: &Doc<'_>) -> bool {
+    let root = doc.root();
+    is_named(root, b"u&v", b"a")
+        && is_in(root.attributes.get(0), b"u&v")
+        && is_element(root.children.get(0), b"u&v", b"c", 31)
+        && is_hint(doc.declared(), b"u&v", b"p")
+}
+
+fn has_shared_space(alloc: Global, text: &[u8]) -> bool {
+    match read(alloc, text) {
+        Ok(doc) => shares_a_space(&doc),
+        Err(_) => false,
+    }
+}
+
+#[test]
+fn a_namespace_with_a_reference_is_that_of_each_of_its_names(rt: HostRuntime) {
+    let text = b"<p:a xmlns:p='u&amp;v' p:b='1'><p:c/></p:a>";
+    assert!(rt; has_shared_space(rt.alloc(), text));
 }
