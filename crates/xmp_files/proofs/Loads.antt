@@ -7,11 +7,10 @@ use Rattle.std.specs.Option.{unwrap_or}
 use Rattle.std.specs.Prelude.{IfOk}
 use Rattle.std.proofs.lemmas.Bool.{cond-true, cond-false, lt-ltb, le-ltb}
 use Rattle.std.proofs.lemmas.List.{take-take, take_min}
-use Rattle.std.proofs.lemmas.List.Elements.{All-weaker}
 use Rattle.xmp_base.specs.Device.{DeskState, Lens, Moved, SizeCall, Told, OthersKeep, bytes_of, is_known, len_of, size_of}
 use Rattle.xmp_base.specs.Whole.{ReadSome}
-use Rattle.xmp_base.specs.Windows.{FillFrom, IsInside, MovesInside, ReadInside}
-use Rattle.xmp_base.proofs.Calls.{same_trans, counts_trans, some_size, some_trans, rose_after, now_known}
+use Rattle.xmp_base.specs.Windows.{FillFrom, MovesInside, ReadInside}
+use Rattle.xmp_base.proofs.Calls.{same_trans, counts_trans, some_size, some_inside, some_trans, rose_after, now_known}
 use Rattle.xmp_base.proofs.Inside.{inside_none, inside_trans, inside_wider}
 use Rattle.xmp_base.proofs.Names.{get-insert_other}
 use Rattle.xmp_values.specs.declared.faults.Fault.{Fault}
@@ -65,14 +64,6 @@ load_after s t u name size kind result a b = record {
   where
     head_before : (rule : Rule) → rule ≢ FileLimit → read_before rule ≡ 16
     head_before rule other = grind arith
-
--- reads inside a file are reads of it
-some_inside : (s t : DeskState) (name : List ℕ) (start end : ℕ) → ReadInside s t name start end → ReadSome s t name
-some_inside s t name start end a = record {
-  same = a.same;
-  counts = a.counts;
-  reads = λ reads told. let m = a.reads reads told in (m.0, m.1, All-weaker (IsInside name start end) (λ (x : Moved). x.0 ≡ name) (λ x i. i.of_name) m.0 m.2);
-}
 
 -- the file, where `size` answered n
 size_found : (found : Option (List ℕ)) (n : ℕ) → Ok n ≡ size_of found → (found ≡ Some (unwrap_or found [])) × (length (unwrap_or found []) ≡ n)

@@ -1,7 +1,6 @@
 //! Loading the packet of a file.
-ghost use Rattle.std.specs.Prelude.{◌≡◌, ◌≤◌, length, Some, IsTrue};
+ghost use Rattle.std.specs.Prelude.{◌≡◌, length, Some, IsTrue};
 ghost use Rattle.xmp_base.specs.Device.{Told, bytes_of, is_known, len_of};
-ghost use Rattle.xmp_base.specs.Windows.{FillFrom};
 ghost use Rattle.xmp_files.specs.Kinds.{kind_of};
 ghost use Rattle.xmp_files.specs.Loads.{KindCall, SizedCall, LoadCall};
 
@@ -9,7 +8,7 @@ use crate::faults::{FILE_LIMIT, PACKET_LIMIT, not_built, not_known, over_limit, 
 use crate::held::Held;
 use crate::kinds::{HEAD_LEN, Kind, kind_of};
 use std::alloc::Global;
-use xmp_base::{Desk, Failed, SizeStop, WindowStop, window};
+use xmp_base::{Desk, Failed, SizeStop, WindowStop, fill_from, window};
 use xmp_values::Fault;
 
 /// Why a file gives no payload.
@@ -69,23 +68,10 @@ fn kind_on<D: Desk>(desk: &mut D, name: &str, size: u64) -> Result<Option<Kind>,
 {
     let mut buffer = [0u8; HEAD_LEN];
     let head = &mut buffer[..size.min(HEAD_LEN as u64) as usize];
-    match fill_front(desk, name, head) {
+    match fill_from(desk, name, 0, head) {
         Ok(()) => Ok(kind_of(head)),
         Err(Failed) => Err(Failed),
     }
-}
-
-/// Fills a slice with the first bytes of a file.
-fn fill_front<D: Desk>(desk: &mut D, name: &str, to: &mut [u8]) -> Result<(), Failed>
-    requires known { IsTrue (is_known (D.state desk.old) name.now) }
-    requires within { length to.old ≤ len_of (D.state desk.old) name.now }
-    ensures call { FillFrom (D.state desk.old) (D.state desk.new) name.now 0 to.new result }
-{
-    let mut done = 0;
-    while done < to.len() {
-        done += desk.read_at(name, done as u64, &mut to[done..])?;
-    }
-    Ok(())
 }
 
 /// The packet of a known sidecar of this length, which is the whole file.

@@ -8,6 +8,6 @@ use Rattle.xmp_files.proofs.loading.kind_on.Goals as goal
 
 pub returns-in-Ok : goal.returns-in-Ok
 returns-in-Ok g c = record {
-  call = subst (λ (k : Option Kind). KindCall (g.D.Desk.state c.args.desk.now) (g.D.Desk.state c.fill_front.new.desk) c.args.name.now c.args.size (Ok k)) (sym c.kind_of.ensures)
-      (kind_read _ _ _ _ c.fill_front.new.to c.requires.told (c.fill_front.auto.to ∙ length-take _ _ ∙ omega (arith, c.min.ensures)) c.in-Ok.ensures.call);
+  call = subst (λ (k : Option Kind). KindCall (g.D.Desk.state c.args.desk.now) (g.D.Desk.state c.fill_from.new.desk) c.args.name.now c.args.size (Ok k)) (sym c.kind_of.ensures)
+      (kind_read _ _ _ _ c.fill_from.new.to c.requires.told (c.fill_from.auto.to ∙ length-take _ _ ∙ omega (arith, c.min.ensures)) c.in-Ok.ensures.call);
 }
