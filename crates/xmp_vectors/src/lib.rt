@@ -5,15 +5,19 @@
 //! `xmp_cli` and `xmp_base`.
 #![tactic(auto)]
 
+#[cfg(test)]
+mod commands;
+#[cfg(test)]
+mod devices;
 mod files;
+#[cfg(test)]
+mod kinds;
 #[cfg(test)]
 mod runs;
 #[cfg(test)]
 mod sidecars;
-#[cfg(test)]
-mod tests;
 
 pub use files::{
-    BLANKS, EMPTY, NO_DESCRIPTION, PHOTO, QUALIFIED, QUALIFIED_LINES, TWICE, TYPED, TYPED_LINES,
-    USUAL, USUAL_LINES,
+    BLANKS, EMPTY, NO_DESCRIPTION, PADDED, PHOTO, QUALIFIED, QUALIFIED_LINES, REFERENCED,
+    REFERENCED_LINES, TWICE, TYPED, TYPED_LINES, USUAL, USUAL_LINES,
 };

@@ -1,9 +1,12 @@
-//! Runs over devices in memory.
+//! Runs over devices in memory, and how they end.
 use crate::PHOTO;
-use std::alloc::Global;
+use std::alloc::{AllocError, Global};
 use xmp_base::{MemoryDesk, MemorySink, SparseDesk};
 use xmp_cli::{Status, run, run_in_memory};
-use xmp_values::{Memory, Words};
+use xmp_values::{Fault, Memory, Part, Words};
+
+/// The line of what isn't built yet.
+pub const NOT_BUILT: &str = "refused NotBuilt file 0 0 0\n";
 
 /// The numbers of the calls that are planned to fail, from 1, of the three devices. 0 plans none.
 #[derive(Clone, Copy)]
@@ -28,6 +31,72 @@ pub struct Ran {
     pub err: MemorySink,
 }
 
+impl Ran {
+    /// Whether it ended with the status that this line tells, and sent this text and this line.
+    pub fn ended(&self, text: &str, line: &str) -> bool {
+        is_told(self.status, line) && self.sent(text, line)
+    }
+
+    /// Whether this text went to `out`, and this line to `err`.
+    pub fn sent(&self, text: &str, line: &str) -> bool {
+        self.out.sent() == text.as_bytes() && self.err.sent() == line.as_bytes()
+    }
+}
+
+/// Whether a status is the one that a line tells, which is Done where there is no line.
+pub fn is_told(status: Status, line: &str) -> bool {
+    match status {
+        Status::Done => line.is_empty(),
+        Status::Usage => line.starts_with("usage: "),
+        Status::Device => line == "device\n",
+        Status::Refused(fault) => is_fault(fault, line),
+        Status::Findings | Status::Memory => false,
+    }
+}
+
+/// Whether a fault is that of a line: `refused`, the rule, the part, the place and two numbers.
+fn is_fault(fault: Fault, line: &str) -> bool {
+    let Some(line) = line.strip_suffix('\n') else {
+        return false;
+    };
+    let mut words = line.split(' ');
+    words.next() == Some("refused")
+        && words.next() == Some(fault.rule.name())
+        && words.next() == Some(part_name(fault.place.part))
+        && is_number(words.next(), fault.place.at)
+        && is_number(words.next(), fault.x)
+        && is_number(words.next(), fault.y)
+        && words.next().is_none()
+}
+
+fn part_name(part: Part) -> &'static str {
+    match part {
+        Part::File => "file",
+        Part::Main => "main",
+        Part::Extended => "extended",
+        Part::Script => "script",
+        Part::Words => "words",
+        Part::Exif => "exif",
+        Part::Iptc => "iptc",
+    }
+}
+
+fn is_number(word: Option<&str>, number: u64) -> bool {
+    match word {
+        Some(word) => word.parse::<u64>().ok() == Some(number),
+        None => false,
+    }
+}
+
+/// The words of a line, which single spaces part.
+pub fn split<'t>(alloc: Global, line: &'t str) -> Result<Vec<&'t str>, AllocError> {
+    let mut words = Vec::new(alloc);
+    for word in line.split(' ') {
+        words.push(word)?;
+    }
+    Ok(words)
+}
+
 fn words_of(alloc: Global, list: &[&str]) -> Result<Words, Memory> {
     let mut words = Words::new(alloc);
     for word in list {
@@ -36,13 +105,10 @@ fn words_of(alloc: Global, list: &[&str]) -> Result<Words, Memory> {
     Ok(words)
 }
 
-/// A desk that moves at most 7 bytes a call and holds `photo.xmp`, an empty `empty.xmp` and `a.xmp`, which is
-/// `hello`.
+/// A desk that holds `photo.xmp` and moves at most 7 bytes a call.
 fn desk_of(alloc: Global) -> Result<MemoryDesk, Memory> {
     let mut desk = MemoryDesk::new(alloc);
     desk.add("photo.xmp", PHOTO.as_bytes())?;
-    desk.add("empty.xmp", b"")?;
-    desk.add("a.xmp", b"hello")?;
     desk.cut(7);
     Ok(desk)
 }
@@ -55,7 +121,7 @@ fn sink_of(alloc: Global, fails: u64) -> Result<MemorySink, Memory> {
     Ok(sink)
 }
 
-/// Runs the words.
+/// Runs the words over the desk with `photo.xmp`.
 pub fn run_words(alloc: Global, list: &[&str], plan: Plan) -> Result<Ran, Memory> {
     let words = words_of(alloc, list)?;
     let mut desk = desk_of(alloc)?;
@@ -79,13 +145,20 @@ pub fn run_over(alloc: Global, list: &[&str], file: &[u8]) -> Result<Ran, Memory
     Ok(Ran { status, out, err })
 }
 
-/// Runs `get` over one file of this length, which begins so and is zeros behind that.
-pub fn run_length(alloc: Global, front: &str, length: u64) -> Result<Ran, Memory> {
-    let words = words_of(alloc, &["get", "a.xmp", "dc:format"])?;
+/// Runs the words over `a.xmp` of this length, which begins so and is zeros behind that.
+pub fn run_length(alloc: Global, list: &[&str], front: &[u8], length: u64) -> Result<Ran, Memory> {
+    let words = words_of(alloc, list)?;
     let mut desk = SparseDesk::new(alloc, "a.xmp", length)?;
-    desk.piece(0, front.as_bytes())?;
+    desk.piece(0, front)?;
     let mut out = MemorySink::new(alloc);
     let mut err = MemorySink::new(alloc);
     let status = run(alloc, &words, &mut desk, &mut out, &mut err);
     Ok(Ran { status, out, err })
+}
+
+/// Whether `get` and `tree` of `a.xmp` of these bytes both end with this line, and send no text.
+pub fn both_refuse(alloc: Global, file: &[u8], line: &str) -> Result<bool, Memory> {
+    let value = run_over(alloc, &["get", "a.xmp", "dc:format"], file)?;
+    let tree = run_over(alloc, &["tree", "a.xmp"], file)?;
+    Ok(value.ended("", line) && tree.ended("", line))
 }

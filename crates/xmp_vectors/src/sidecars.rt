@@ -1,29 +1,25 @@
 //! Runs of `get` and `tree` over one sidecar.
-use crate::runs::run_over;
+use crate::runs::{NOT_BUILT, both_refuse, run_over};
 use crate::{
-    BLANKS, EMPTY, NO_DESCRIPTION, PHOTO, QUALIFIED, QUALIFIED_LINES, TWICE, TYPED, TYPED_LINES,
-    USUAL, USUAL_LINES,
+    BLANKS, EMPTY, NO_DESCRIPTION, PADDED, PHOTO, QUALIFIED, QUALIFIED_LINES, REFERENCED,
+    REFERENCED_LINES, TWICE, TYPED, TYPED_LINES, USUAL, USUAL_LINES,
 };
 use std::alloc::Global;
 use std::test::Fail;
 use xmp_values::Memory;
 
-/// Whether `tree` of this file sends this text, and this line to `err`.
-fn tree_sends(alloc: Global, file: &[u8], text: &str, line: &str) -> Result<bool, Memory> {
-    let found = run_over(alloc, &["tree", "a.xmp"], file)?;
-    Ok(found.out.sent() == text.as_bytes() && found.err.sent() == line.as_bytes())
+const NO_SUCH_PLACE: &str = "refused NoSuchPlace words 2 0 0\n";
+
+const UNKNOWN_PREFIX: &str = "refused UnknownPrefix words 2 0 0\n";
+
+/// Whether `tree` of this file is done and sends this text.
+fn tree_sends(alloc: Global, file: &str, text: &str) -> Result<bool, Memory> {
+    Ok(run_over(alloc, &["tree", "a.xmp"], file.as_bytes())?.ended(text, ""))
 }
 
-/// Whether `get` of this file sends this text, and this line to `err`.
-fn get_sends(
-    alloc: Global,
-    file: &str,
-    path: &str,
-    text: &str,
-    line: &str,
-) -> Result<bool, Memory> {
-    let found = run_over(alloc, &["get", "a.xmp", path], file.as_bytes())?;
-    Ok(found.out.sent() == text.as_bytes() && found.err.sent() == line.as_bytes())
+/// Whether `get` of this file ends with this line, and sends this text.
+fn get_ends(alloc: Global, file: &str, path: &str, text: &str, line: &str) -> Result<bool, Memory> {
+    Ok(run_over(alloc, &["get", "a.xmp", path], file.as_bytes())?.ended(text, line))
 }
 
 #[test]
@@ -31,24 +27,54 @@ fn tree_shows_the_lines(rt: HostRuntime) -> Result<(), Fail> {
     for (file, text) in [
         (PHOTO, "about \ndc:format text image/jpeg\n"),
         (EMPTY, "about \n"),
+        (PADDED, "about \ndc:format text a\n"),
         (QUALIFIED, QUALIFIED_LINES),
         (TYPED, TYPED_LINES),
         (USUAL, USUAL_LINES),
+        (REFERENCED, REFERENCED_LINES),
     ] {
-        assert!(rt;
-            tree_sends(rt.alloc(), file.as_bytes(), text, "")?,
-            "{file}"
-        );
+        assert!(rt; tree_sends(rt.alloc(), file, text)?, "{file}");
     }
     Ok(())
 }
 
 #[test]
-fn tree_refuses_by_the_first_fault(rt: HostRuntime) -> Result<(), Fail> {
+fn get_shows_the_value_at_a_path(rt: HostRuntime) -> Result<(), Fail> {
+    for (file, path, text) in [
+        (PHOTO, "dc:format", "image/jpeg\n"),
+        (PADDED, "dc:format", "a\n"),
+        (BLANKS, "dc:source", "a b\nc\n"),
+        (QUALIFIED, "dc:source", "u\n"),
+        (QUALIFIED, "dc:relation", "\n"),
+        (REFERENCED, "a:three", "3\n"),
+    ] {
+        assert!(rt; get_ends(rt.alloc(), file, path, text, "")?, "{path}");
+    }
+    Ok(())
+}
+
+#[test]
+fn get_refuses_other_paths(rt: HostRuntime) -> Result<(), Fail> {
+    for (file, path, line) in [
+        (PHOTO, "dc:", NOT_BUILT),
+        (PHOTO, "dc:title", NO_SUCH_PLACE),
+        (QUALIFIED, "xmp:Label", NO_SUCH_PLACE),
+        (QUALIFIED, "none:Label", UNKNOWN_PREFIX),
+        (QUALIFIED, "rdf:type", "refused Reserved words 2 0 0\n"),
+        (QUALIFIED, "dc:coverage", NOT_BUILT),
+        (USUAL, "dc:title", NOT_BUILT),
+        (REFERENCED, "b:three", UNKNOWN_PREFIX),
+    ] {
+        assert!(rt; get_ends(rt.alloc(), file, path, "", line)?, "{path}");
+    }
+    Ok(())
+}
+
+#[test]
+fn get_and_tree_refuse_by_the_first_fault(rt: HostRuntime) -> Result<(), Fail> {
     for (file, line) in [
-        ("", "refused NotKnown file 0 0 0\n"),
-        ("hello", "refused NotKnown file 0 0 0\n"),
         ("<a>]]></a>", "refused BadChar main 3 0 0\n"),
+        ("<a/>\0\n", "refused BadChar main 4 0 0\n"),
         (
             "<a b=\"1\" b=\"2\"/>",
             "refused TwiceAttribute main 0 0 0\n",
@@ -61,46 +87,9 @@ fn tree_refuses_by_the_first_fault(rt: HostRuntime) -> Result<(), Fail> {
         (NO_DESCRIPTION, "refused NotDescription main 65 0 0\n"),
         (TWICE, "refused Twice main 65 0 0\n"),
     ] {
-        assert!(rt;
-            tree_sends(rt.alloc(), file.as_bytes(), "", line)?,
-            "{file}"
-        );
+        assert!(rt; both_refuse(rt.alloc(), file.as_bytes(), line)?, "{file}");
     }
-    assert!(rt;
-        tree_sends(
-            rt.alloc(),
-            b"\xFF\xFE<\x00",
-            "",
-            "refused Utf16 main 0 0 0\n"
-        )?
-    );
-    Ok(())
-}
-
-#[test]
-fn get_shows_the_value_at_a_path(rt: HostRuntime) -> Result<(), Fail> {
-    for (file, path, text, line) in [
-        (PHOTO, "dc:format", "image/jpeg\n", ""),
-        (BLANKS, "dc:source", "a b\nc\n", ""),
-        (QUALIFIED, "dc:source", "u\n", ""),
-        (QUALIFIED, "dc:relation", "\n", ""),
-        (
-            QUALIFIED,
-            "xmp:Label",
-            "",
-            "refused NoSuchPlace words 2 0 0\n",
-        ),
-        (
-            QUALIFIED,
-            "none:Label",
-            "",
-            "refused UnknownPrefix words 2 0 0\n",
-        ),
-        (QUALIFIED, "rdf:type", "", "refused Reserved words 2 0 0\n"),
-        (USUAL, "dc:title", "", "refused NotBuilt file 0 0 0\n"),
-        ("<a>", "dc:format", "", "refused Unfinished main 3 0 0\n"),
-    ] {
-        assert!(rt; get_sends(rt.alloc(), file, path, text, line)?, "{path}");
-    }
+    let utf_16 = "refused Utf16 main 0 0 0\n";
+    assert!(rt; both_refuse(rt.alloc(), b"\xFF\xFE<\x00", utf_16)?);
     Ok(())
 }
