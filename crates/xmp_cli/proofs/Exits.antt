@@ -3,7 +3,7 @@ use Rattle.std.proofs.Common.{◌≡◌, ◌⊎◌, ℕ, List, ◌++◌, All, re
 use Rattle.std.specs.declared.option.Option.{Option}
 use Rattle.std.specs.declared.result.Result.{Result}
 use Rattle.std.specs.FinMap.{get}
-use Rattle.xmp_base.specs.Device.{DeskState, SinkState, Files, Moved, Rose, Told}
+use Rattle.xmp_base.specs.Device.{DeskState, SinkState, Files, Moved, Rose, Told, OthersKeep}
 use Rattle.xmp_base.specs.Whole.{ReadSome}
 use Rattle.xmp_base.specs.declared.device.Failed.{Failed}
 use Rattle.xmp_values.specs.declared.faults.Fault.{Fault}
@@ -49,6 +49,11 @@ reads_of : (file : List ℕ) (view : View) (s t : DeskState) → ReadSome s t fi
 reads_of file (views.Value path) s t calls = calls.reads
 reads_of file views.Tree s t calls = calls.reads
 
+others_of : (file : List ℕ) (view : View) (s t : DeskState) → OthersKeep s.lens t.lens file
+    → (name : List ℕ) → (Reads (Some (shows file view)) name → ⊥) → get t.lens name ≡ get s.lens name
+others_of file (views.Value path) s t others = others
+others_of file views.Tree s t others = others
+
 may_want : (file : List ℕ) (view : View) (files : Files) → IsOk (kind_of_file (get files file)) → MayWant (Some (shows file view)) files
 may_want file (views.Value path) files h = h
 may_want file views.Tree files h = h
@@ -82,7 +87,7 @@ none_put file view files outcome h =
 sent_none : (o : SinkState) (text : List ℕ) → SentSome o o text
 sent_none o text = λ sent told. (0, told ∙ ap (λ (l : List ℕ). Some l) (sym (append-nil sent)))
 
-module _ (file : List ℕ) (view : View) (s t : DeskState) (o : SinkState) (calls : ReadSome s t file) where
+module _ (file : List ℕ) (view : View) (s t : DeskState) (o : SinkState) (calls : ReadSome s t file) (others : OthersKeep s.lens t.lens file) where
   -- a refusal is every outcome
   refused_call : (fault : Fault) → Told s.files (λ files. IsOutcome (Some (shows file view)) files (refused fault)) → (fault.rule ≡ NoFile → Rose s.misses t.misses)
       → RunCall (Some (shows file view)) s t o o (Refused fault)
@@ -91,6 +96,7 @@ module _ (file : List ℕ) (view : View) (s t : DeskState) (o : SinkState) (call
     sink = omega arith;
     plan = refl;
     reads = reads_of file view s t calls;
+    others = others_of file view s t others;
     unwritten = λ e. calls.same;
     usage = (λ e. cc, λ e. cc);
     told = λ files e a. (
@@ -118,6 +124,7 @@ module _ (file : List ℕ) (view : View) (s t : DeskState) (o : SinkState) (call
       sink = omega arith;
       plan = refl;
       reads = reads_of file view s t calls;
+      others = others_of file view s t others;
       unwritten = λ e. calls.same;
       usage = (λ e. cc, λ e. cc);
       told = λ files e a. absurd a;
@@ -140,6 +147,7 @@ module _ (file : List ℕ) (view : View) (s t : DeskState) (o : SinkState) (call
       sink = omega arith;
       plan = refl;
       reads = reads_of file view s t calls;
+      others = others_of file view s t others;
       unwritten = λ e. calls.same;
       usage = (λ e. cc, λ e. cc);
       told = λ files e a. absurd a;
@@ -200,6 +208,7 @@ module _ (file : List ℕ) (view : View) (s t : DeskState) (o : SinkState) (call
           sink = send.count;
           plan = send.plan;
           reads = reads_of file view s t calls;
+          others = others_of file view s t others;
           unwritten = λ e. calls.same;
           usage = (λ e. cc, λ e. cc);
           told = λ files e a. (
@@ -230,6 +239,7 @@ module _ (file : List ℕ) (view : View) (s t : DeskState) (o : SinkState) (call
           sink = send.count;
           plan = send.plan;
           reads = reads_of file view s t calls;
+          others = others_of file view s t others;
           unwritten = λ e. calls.same;
           usage = (λ e. cc, λ e. cc);
           told = λ files e a. absurd a;
@@ -265,34 +275,34 @@ module _ (file : List ℕ) (view : View) (s t : DeskState) (o : SinkState) (load
   pub absent : (fault : Fault) → load ≡ Err load_stop.Absent → fault ≡ no_file → Shown file view s t o o (Refused fault)
   absent fault is same =
       let b : LoadCall s t file (Err load_stop.Absent) = subst (LoadCall s t file) is a in
-      subst (λ (f : Fault). Shown file view s t o o (Refused f)) (sym same) (load_end file view s t o b.calls no_file b.told (λ e. b.missed refl) (inl refl))
+      subst (λ (f : Fault). Shown file view s t o o (Refused f)) (sym same) (load_end file view s t o b.calls b.others no_file b.told (λ e. b.missed refl) (inl refl))
 
   pub load_refused : (f fault : Fault) → load ≡ Err (load_stop.Fault f) → f ≡ fault → Shown file view s t o o (Refused fault)
   load_refused f fault is same =
       let b : LoadCall s t file (Err (load_stop.Fault f)) = subst (LoadCall s t file) is a in
       let numbers = (b.refuses f refl).numbers in
       subst (λ (g : Fault). Shown file view s t o o (Refused g)) same
-      (load_end file view s t o b.calls f b.told (λ e. absurd (not_missing f.rule f numbers e)) (inr numbers))
+      (load_end file view s t o b.calls b.others f b.told (λ e. absurd (not_missing f.rule f numbers e)) (inr numbers))
 
   pub load_failed : load ≡ Err load_stop.Device → Shown file view s t o o Device
-  load_failed is = device_end file view s t o a.calls (a.device is)
+  load_failed is = device_end file view s t o a.calls a.others (a.device is)
 
   pub load_wants : load ≡ Err load_stop.Memory → Shown file view s t o o Memory
-  load_wants is = memory_end file view s t o a.calls (λ files e. a.memory files e is)
+  load_wants is = memory_end file view s t o a.calls a.others (λ files e. a.memory files e is)
 
   module _ (payload : List ℕ) (load_is : load ≡ Ok payload) where
     held : LoadCall s t file (Ok payload)
     held = subst (LoadCall s t file) load_is a
 
     pub view_wants : Shown file view s t o o Memory
-    view_wants = memory_end file view s t o a.calls (λ files e. ok_kind (get files file) payload (held.told files e))
+    view_wants = memory_end file view s t o a.calls a.others (λ files e. ok_kind (get files file) payload (held.told files e))
 
     module _ (result : Result (List ℕ) Stop) (viewed : IsViewed (view_of view) result payload)
         (each : (step : Result Meaning Fault) → Opens payload step → ViewAgrees (view_of view) result step) where
       pub view_refused : (fault : Fault) → result ≡ Err (stop.Fault fault) → Shown file view s t o o (Refused fault)
       view_refused fault is =
           let v : IsViewed (view_of view) (Err (stop.Fault fault)) payload = subst (λ (r : Result (List ℕ) Stop). IsViewed (view_of view) r payload) is viewed in
-          view_end file view s t o a.calls payload held.told fault v.0 v.1 v.2
+          view_end file view s t o a.calls a.others payload held.told fault v.0 v.1 v.2
           (λ step opens. subst (λ (r : Result (List ℕ) Stop). ViewAgrees (view_of view) r step) is (each step opens))
 
       module _ (p : SinkState) (text : List ℕ) (is : result ≡ Ok text) (sent : List ℕ) (same : sent ≡ text) (end : Result (Unit {0}) Failed) (send : SendAll o p sent end) where
@@ -303,9 +313,9 @@ module _ (file : List ℕ) (view : View) (s t : DeskState) (o : SinkState) (load
         by_each step opens = subst (λ (r : Result (List ℕ) Stop). ViewAgrees (view_of view) r step) is (each step opens)
 
         pub view_sent : (unit : Unit {0}) → end ≡ Ok unit → Shown file view s t o p Done
-        view_sent unit e = sent_end file view s t o a.calls payload held.told p text by_view.0 by_view.1 by_view.2 by_each unit
+        view_sent unit e = sent_end file view s t o a.calls a.others payload held.told p text by_view.0 by_view.1 by_view.2 by_each unit
             (subst (λ (l : List ℕ). SendAll o p l (Ok unit)) same (subst (SendAll o p sent) e send))
 
         pub view_failed : (failed : Failed) → end ≡ Err failed → Shown file view s t o p Device
-        view_failed failed e = failed_end file view s t o a.calls payload held.told p text by_view.0 by_view.1 by_view.2 by_each failed
+        view_failed failed e = failed_end file view s t o a.calls a.others payload held.told p text by_view.0 by_view.1 by_view.2 by_each failed
             (subst (λ (l : List ℕ). SendAll o p l (Err failed)) same (subst (SendAll o p sent) e send))

@@ -30,6 +30,7 @@ usage_call s o = record {
   sink = omega arith;
   plan = refl;
   reads = λ reads told. ([], told ∙ ap told_list (sym (append-nil reads)), λ k m least. absurd (omega (arith, least)));
+  others = λ name apart. refl;
   unwritten = λ e. same_files s;
   usage = (λ e. refl, λ e. refl);
   told = λ files e a. (
@@ -106,6 +107,7 @@ module _ (command : Command) (h : IsUnbuilt command) (s : DeskState) (o : SinkSt
     sink = omega arith;
     plan = refl;
     reads = λ reads told. ([], told ∙ ap told_list (sym (append-nil reads)), λ k m least. absurd (omega (arith, least)));
+    others = λ name apart. refl;
     unwritten = λ e. same_files s;
     usage = (λ e. cc, λ e. cc);
     told = λ files e a. (
