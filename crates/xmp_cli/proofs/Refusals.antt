@@ -1,5 +1,5 @@
 -- Which refusals a command that shows a view has.
-use Rattle.std.proofs.Common.{◌≡◌, ℕ, List, refl, Ok, Err, Some, None, Bool, true, false, subst, ap, sym, ◌∙◌, inl, inr, if◌then◌else◌}
+use Rattle.std.proofs.Common.{◌≡◌, ℕ, List, refl, Ok, Err, Some, None, Bool, true, false, subst, inl, inr, if◌then◌else◌}
 use Rattle.std.specs.declared.option.Option.{Option}
 use Rattle.std.specs.declared.result.Result.{Result}
 use Rattle.xmp_values.specs.declared.faults.Fault.{Fault}
@@ -19,6 +19,7 @@ use Rattle.xmp_write.specs.Packets.{packet_text}
 use Rattle.xmp_files.specs.Faults.{fault_at}
 use Rattle.xmp_files.specs.Loading.{followed}
 use Rattle.xmp_files.specs.Opening.{Means, Opens, in_main}
+use Rattle.xmp_files.proofs.NeverMissing.{opens_there}
 use Rattle.xmp_cli.specs.declared.status.Status.TheVariants.{Refused}
 use Rattle.xmp_cli.specs.declared.views.View.{View}
 use Rattle.xmp_cli.specs.declared.views.View.TheVariants as views
@@ -26,7 +27,6 @@ use Rattle.xmp_cli.specs.Commands.{Command}
 use Rattle.xmp_cli.specs.Order.{path_step, shape_text, value_text, get_text, tree_text}
 use Rattle.xmp_cli.specs.Run.{IsPacketRefusal, IsFileRefusal, IsPathRefusal, IsRefusal, Refuses}
 use Rattle.xmp_cli.specs.Steps.{view_of, shows}
-use Rattle.xmp_cli.proofs.NeverMissing.{never_missing}
 
 pub same_fault : (f g : Fault) → Refused f ≡ Refused g → f ≡ g
 same_fault f g e = cc
@@ -100,14 +100,11 @@ packet_refuses : (text : List ℕ) (read : Result Meaning (Rule × ℕ)) (fault 
 packet_refuses text (Ok m) fault means e = absurd (let bad : Err fault ≡ Ok m = e in cc)
 packet_refuses text (Err (rule, place)) fault means e = (text, rule, place, means, same_error fault (fault_at rule Main place) e)
 
-packet_there : (fault : Fault) → IsPacketRefusal fault → fault.rule ≡ NoFile → ⊥
-packet_there fault h rule = never_missing h.0 h.2
-    (subst (λ (r : Rule). Means h.0 (Err (r, h.2))) (sym (ap (λ (f : Fault). f.rule) h.4) ∙ rule) h.3)
-
 -- a view of a payload refuses as its packet, the path and what is there do
 pub step_refuses : (file : List ℕ) (view : View) (payload : List ℕ) (step : Result Meaning Fault) (fault : Fault) → Opens payload step → followed step (view_of view) ≡ Err fault
     → IsRefusal (Some (shows file view)) fault × (fault.rule ≡ NoFile → ⊥)
 step_refuses file view payload (Ok m) fault opens e = view_refuses file view m fault e
 step_refuses file view payload (Err f) fault opens e =
-    let is = subst IsPacketRefusal (same_error f fault e) (packet_refuses (packet_text payload) opens.0 f opens.1 opens.2) in
-    (file_refuses file view fault (inr (inr is)), packet_there fault is)
+    let same : f ≡ fault = same_error f fault e in
+    let is = subst IsPacketRefusal same (packet_refuses (packet_text payload) opens.0 f opens.1 opens.2) in
+    (file_refuses file view fault (inr (inr is)), opens_there payload fault (subst (λ (g : Fault). Opens payload (Err g)) same opens))

@@ -1,6 +1,8 @@
 -- No packet is refused as a file that isn't there.
-use Rattle.std.proofs.Common.{◌≡◌, ℕ, Bool, true, false, List, [], ◌∷◌, Option, Some, None, Ok, Err, inl, inr, if◌then◌else◌, ap, refl}
+use Rattle.std.proofs.Common.{◌≡◌, ℕ, Bool, true, false, List, [], ◌∷◌, Option, Some, None, Ok, Err, inl, inr, if◌then◌else◌, ap, sym, ◌∙◌, subst, refl}
 use Rattle.std.specs.declared.result.Result.{Result}
+use Rattle.xmp_values.specs.declared.faults.Fault.{Fault}
+use Rattle.xmp_values.specs.declared.faults.Part.TheVariants.{Main}
 use Rattle.xmp_values.specs.declared.rules.Rule.{Rule}
 use Rattle.xmp_values.specs.declared.rules.Rule.TheVariants.{NoFile, NoRdf, NotDescription, AboutDiffers, NoNamespace, XmlName, RdfName, RefusedAttribute, BadParseType, Mixed, ManyNodes, BadContainer, BadItem, TwiceValue, Twice, TreeDeep}
 use Rattle.xmp_values.specs.declared.hints.Hint.{Hint}
@@ -14,7 +16,10 @@ use Rattle.rdf_forms.specs.MemberRules.{member_rule, twice_value, twice, tree_de
 use Rattle.rdf_forms.specs.Rules.{or_else, broken, broken_in, placed, fault_at, first_fault, fault_of}
 use Rattle.xmp_rdf.specs.Meanings.{reading, most_levels}
 use Rattle.xmp_rdf.specs.Meanings as readings
-use Rattle.xmp_files.specs.Opening.{Means}
+use Rattle.xmp_rdf.specs.declared.meanings.Meaning.{Meaning}
+use Rattle.xmp_write.specs.Packets.{packet_text}
+use Rattle.xmp_files.specs.Faults as faults
+use Rattle.xmp_files.specs.Opening.{Means, Opens, in_main}
 
 -- a rule, if there is one, isn't that of a missing file
 abbrev IsThere : Option Rule → Type 0
@@ -111,6 +116,16 @@ reading_by root hints place (Some fault) is h = rw (is) (λ e. h place (ap found
 reading_there : (root : Element) (hints : List Hint) (place : ℕ) → reading root hints ≡ Err (NoFile, place) → ⊥
 reading_there root hints place e = reading_by root hints place (fault_of most_levels root) refl (visits_there (visits most_levels root)) e
 
-pub never_missing : (text : List ℕ) (place : ℕ) → Means text (Err (NoFile, place)) → ⊥
+never_missing : (text : List ℕ) (place : ℕ) → Means text (Err (NoFile, place)) → ⊥
 never_missing text place (inl fault) = fault.rule
 never_missing text place (inr read) = reading_there read.0 read.1 place read.3
+
+text_there : (text : List ℕ) (read : Result Meaning (Rule × ℕ)) (fault : Fault) → Means text read → (let e : Result Meaning Fault = Err fault in e) ≡ in_main read → fault.rule ≡ NoFile → ⊥
+text_there text (Ok m) fault means e missing = absurd (let bad : Err fault ≡ Ok m = e in cc)
+text_there text (Err (rule, place)) fault means e missing =
+    let same = same_err fault (faults.fault_at rule Main place) e in
+    never_missing text place (subst (λ (r : Rule). Means text (Err (r, place))) (sym (ap (λ (f : Fault). f.rule) same) ∙ missing) means)
+
+-- nor is a payload
+pub opens_there : (payload : List ℕ) (fault : Fault) → Opens payload (Err fault) → fault.rule ≡ NoFile → ⊥
+opens_there payload fault opens = text_there (packet_text payload) opens.0 fault opens.1 opens.2
