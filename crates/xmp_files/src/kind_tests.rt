@@ -1,5 +1,5 @@
 //! Beginnings of files, and how they are told apart.
-use crate::{Kind, kind_of};
+use crate::kinds::{Kind, kind_of};
 use std::alloc::{AllocError, Global};
 use std::test::Fail;
 
