@@ -305,7 +305,7 @@ module _ (file : List ℕ) (view : View) (s t : DeskState) (o : SinkState) (load
           view_end file view s t o a.calls a.others payload held.told fault v.0 v.1 v.2
           (λ step opens. subst (λ (r : Result (List ℕ) Stop). ViewAgrees (view_of view) r step) is (each step opens))
 
-      module _ (p : SinkState) (text : List ℕ) (is : result ≡ Ok text) (sent : List ℕ) (same : sent ≡ text) (end : Result (Unit {0}) Failed) (send : SendAll o p sent end) where
+      module _ (p : SinkState) (text : List ℕ) (is : result ≡ Ok text) (end : Result (Unit {0}) Failed) (send : SendAll o p text end) where
         by_view : IsViewed (view_of view) (Ok text) payload
         by_view = subst (λ (r : Result (List ℕ) Stop). IsViewed (view_of view) r payload) is viewed
 
@@ -314,8 +314,8 @@ module _ (file : List ℕ) (view : View) (s t : DeskState) (o : SinkState) (load
 
         pub view_sent : (unit : Unit {0}) → end ≡ Ok unit → Shown file view s t o p Done
         view_sent unit e = sent_end file view s t o a.calls a.others payload held.told p text by_view.0 by_view.1 by_view.2 by_each unit
-            (subst (λ (l : List ℕ). SendAll o p l (Ok unit)) same (subst (SendAll o p sent) e send))
+            (subst (SendAll o p text) e send)
 
         pub view_failed : (failed : Failed) → end ≡ Err failed → Shown file view s t o p Device
         view_failed failed e = failed_end file view s t o a.calls a.others payload held.told p text by_view.0 by_view.1 by_view.2 by_each failed
-            (subst (λ (l : List ℕ). SendAll o p l (Err failed)) same (subst (SendAll o p sent) e send))
+            (subst (SendAll o p text) e send)

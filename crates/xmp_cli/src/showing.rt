@@ -7,17 +7,16 @@ ghost use Rattle.xmp_files.specs.Opening.{Opens};
 ghost use Rattle.xmp_cli.specs.Steps.{shows, view_of, IsViewed, ViewAgrees};
 ghost use Rattle.xmp_cli.specs.Run.{RunCall, Complete, Refuses};
 
-use crate::sending::send;
+use crate::shown::Shown;
 use crate::status::Status;
 use crate::stop::Stop;
 use crate::views::{View, text_of};
 use std::alloc::Global;
 use xmp_base::{Desk, Failed, Sink};
 use xmp_files::{Held, LoadStop, OpenStop, load, no_file, read_file};
-use xmp_values::Bytes;
 
 /// What a view shows of a file that is held.
-fn view_text(alloc: Global, held: &Held, view: View<'_>) -> Result<Bytes, Stop>
+fn view_text<'h>(alloc: Global, held: &'h Held, view: View<'_>) -> Result<Shown<'h>, Stop>
     ensures viewed { IsViewed (view_of view.entry) result held.now }
     ensures each { (step : Result Meaning Fault) → Opens held.now step → ViewAgrees (view_of view.entry) result step }
 {
@@ -48,7 +47,7 @@ pub fn show<D: Desk, O: Sink>(
         Err(LoadStop::Memory) => return Status::Memory,
     };
     match view_text(alloc, &held, view) {
-        Ok(text) => match send(out, text.as_slice()) {
+        Ok(text) => match text.send(out) {
             Ok(()) => Status::Done,
             Err(Failed) => Status::Device,
         },

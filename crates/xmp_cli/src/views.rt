@@ -1,11 +1,12 @@
 //! What a command shows of a file's meaning: the value at a path, or the lines of the tree.
-ghost use Rattle.std.specs.Prelude.{◌≡◌, ◌++◌, codes, IfOk};
+ghost use Rattle.std.specs.Prelude.{◌≡◌, IfOk};
 ghost use Rattle.std.specs.Option.{option_copied};
 ghost use Rattle.xmp_tree.specs.declared.nested.Shape.{out-Shape};
 ghost use Rattle.xmp_cli.specs.Order.{get_text, tree_text, path_fault, shape_text, value_text};
 ghost use Rattle.xmp_cli.specs.Steps.{Gives, view_of};
 
 use crate::faults::{no_such_place, path_fault};
+use crate::shown::Shown;
 use crate::stop::Stop;
 use std::alloc::Global;
 use xmp_edit::{Path, PathStop, find};
@@ -25,18 +26,18 @@ pub enum View<'w> {
 }
 
 /// What a view shows of a meaning.
-pub fn text_of(alloc: Global, meaning: &Meaning<'_>, view: View<'_>) -> Result<Bytes, Stop>
+pub fn text_of<'p>(alloc: Global, meaning: &Meaning<'p>, view: View<'_>) -> Result<Shown<'p>, Stop>
     ensures { Gives result (view_of view.entry meaning.now) }
 {
     match view {
         View::Value(path) => value_at(alloc, meaning, path),
-        View::Tree => Ok(tree_lines(alloc, meaning)?),
+        View::Tree => Ok(Shown::lines(tree_lines(alloc, meaning)?)),
     }
 }
 
-/// The value at a path, with a LF.
+/// The value at a path.
 #[tactic(auto, unfolding(crate::specs::Order::get_text))]
-fn value_at(alloc: Global, meaning: &Meaning<'_>, path: &str) -> Result<Bytes, Stop>
+fn value_at<'p>(alloc: Global, meaning: &Meaning<'p>, path: &str) -> Result<Shown<'p>, Stop>
     ensures { Gives result (get_text path.now meaning.now) }
 {
     let path = match Path::read(alloc, path.as_bytes(), &meaning.hints) {
@@ -47,7 +48,7 @@ fn value_at(alloc: Global, meaning: &Meaning<'_>, path: &str) -> Result<Bytes, S
     value_text(alloc, find(&meaning.tree, &path))
 }
 
-fn value_text(alloc: Global, value: Option<&Value<'_>>) -> Result<Bytes, Stop>
+fn value_text<'p>(alloc: Global, value: Option<&Value<'p>>) -> Result<Shown<'p>, Stop>
     ensures { Gives result (value_text (option_copied value.entry)) }
 {
     match value {
@@ -56,22 +57,14 @@ fn value_text(alloc: Global, value: Option<&Value<'_>>) -> Result<Bytes, Stop>
     }
 }
 
-fn shape_text(alloc: Global, shape: &Shape<'_>) -> Result<Bytes, Stop>
+fn shape_text<'p>(alloc: Global, shape: &Shape<'p>) -> Result<Shown<'p>, Stop>
     ensures { Gives result (shape_text (out-Shape shape.now)) }
 {
     match shape {
-        Shape::Simple(text) => Ok(with_line_feed(alloc, text.bytes())?),
-        Shape::Uri(text) => Ok(with_line_feed(alloc, text.bytes())?),
+        Shape::Simple(text) => Ok(Shown::value(text.again(alloc)?)),
+        Shape::Uri(text) => Ok(Shown::value(text.again(alloc)?)),
         Shape::Struct(_) | Shape::Array(_, _) => Err(Stop::Fault(not_built())),
     }
-}
-
-fn with_line_feed(alloc: Global, text: &[u8]) -> Result<Bytes, Memory>
-    ensures { IfOk result (λ line. line ≡ text.now ++ codes "\n") }
-{
-    let mut line = Bytes::from_slice(alloc, text)?;
-    line.push(b'\n')?;
-    Ok(line)
 }
 
 /// The lines of the tree.

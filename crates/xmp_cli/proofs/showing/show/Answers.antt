@@ -19,15 +19,15 @@ returns-in-Err-Fault-clause-call g c = (load_refused c.args.file.now c.args.view
 
 pub returns-in-Ok-send-clause-call : goal.returns-in-Ok-send-clause-call
 returns-in-Ok-send-clause-call g c = (view_sent c.args.file.now c.args.view (g.D.Desk.state c.args.desk.now) (g.D.Desk.state c.load.new.desk) (g.O.Sink.state c.args.out.now) c.load.result c.load.ensures.call c.in-Ok.held c.in-Ok.is
-    c.view_text.result c.view_text.ensures.viewed c.view_text.ensures.each (g.O.Sink.state c.send.new.out) c.in-Ok-view_text.text c.in-Ok-view_text.is c.as_slice.result.now c.as_slice.ensures c.send.result c.send.ensures.call c.in-Ok-send.field-0 c.in-Ok-send.is).call
+    c.view_text.result c.view_text.ensures.viewed c.view_text.ensures.each (g.O.Sink.state c.send.new.out) c.in-Ok-view_text.text c.in-Ok-view_text.is c.send.result c.send.ensures.call c.in-Ok-send.field-0 c.in-Ok-send.is).call
 
 pub returns-in-Ok-send-clause-complete : goal.returns-in-Ok-send-clause-complete
 returns-in-Ok-send-clause-complete g c = (view_sent c.args.file.now c.args.view (g.D.Desk.state c.args.desk.now) (g.D.Desk.state c.load.new.desk) (g.O.Sink.state c.args.out.now) c.load.result c.load.ensures.call c.in-Ok.held c.in-Ok.is
-    c.view_text.result c.view_text.ensures.viewed c.view_text.ensures.each (g.O.Sink.state c.send.new.out) c.in-Ok-view_text.text c.in-Ok-view_text.is c.as_slice.result.now c.as_slice.ensures c.send.result c.send.ensures.call c.in-Ok-send.field-0 c.in-Ok-send.is).complete
+    c.view_text.result c.view_text.ensures.viewed c.view_text.ensures.each (g.O.Sink.state c.send.new.out) c.in-Ok-view_text.text c.in-Ok-view_text.is c.send.result c.send.ensures.call c.in-Ok-send.field-0 c.in-Ok-send.is).complete
 
 pub returns-in-Ok-view_text-clause-call : goal.returns-in-Ok-view_text-clause-call
 returns-in-Ok-view_text-clause-call g c = (view_failed c.args.file.now c.args.view (g.D.Desk.state c.args.desk.now) (g.D.Desk.state c.load.new.desk) (g.O.Sink.state c.args.out.now) c.load.result c.load.ensures.call c.in-Ok.held c.in-Ok.is
-    c.view_text.result c.view_text.ensures.viewed c.view_text.ensures.each (g.O.Sink.state c.send.new.out) c.in-Ok-view_text.text c.in-Ok-view_text.is c.as_slice.result.now c.as_slice.ensures c.send.result c.send.ensures.call c.in-Err.field-0 c.in-Err.is).call
+    c.view_text.result c.view_text.ensures.viewed c.view_text.ensures.each (g.O.Sink.state c.send.new.out) c.in-Ok-view_text.text c.in-Ok-view_text.is c.send.result c.send.ensures.call c.in-Err.field-0 c.in-Err.is).call
 
 pub returns-in-Err-Fault-view_text-clause-call : goal.returns-in-Err-Fault-view_text-clause-call
 returns-in-Err-Fault-view_text-clause-call g c = (view_refused c.args.file.now c.args.view (g.D.Desk.state c.args.desk.now) (g.D.Desk.state c.load.new.desk) (g.O.Sink.state c.args.out.now) c.load.result c.load.ensures.call c.in-Ok.held c.in-Ok.is
