@@ -1,76 +1,39 @@
--- Maps that own their texts, and the places of namespaces.
-use Rattle.std.proofs.Common.{◌≡◌, ℕ, ◌+◌, Bool, true, false, cond, List, [], ◌∷◌, ◌++◌, length, Vec, Global, Option, Some, None, refl, sym, ap, ◌∙◌}
+-- Maps of namespaces to their places.
+use Rattle.std.proofs.Common.{◌≡◌, ℕ, ◌+◌, Bool, true, false, cond, List, [], ◌∷◌, ◌++◌, length, map, fold, Bor, Option, Some, None, refl, sym, ap, ◌∙◌}
 use Rattle.std.specs.Prelude.{slice_get, unwrap_or}
 use Rattle.std.specs.Option.{option_map}
 use Rattle.std.specs.List.{position_from}
-use Rattle.std.specs.Map.{lookup}
 use Rattle.std.specs.Str.{bytes_eq}
-use Rattle.std.specs.declared.cmp.Ordering.{Ordering}
-use Rattle.std.specs.declared.cmp.Ordering.TheVariants.{Less, Equal, Greater}
-use Rattle.std.specs.Ordering.{nat_cmp, is_eq, match_ordering}
-use Rattle.std.specs.Cmp.{Equal-is}
-use Rattle.std.specs.Cmp.Lexicographic.{slice_cmp}
-use Rattle.std.specs.BTreeMap.{BTreeMap, insert_entry}
-use Rattle.std.proofs.lemmas.List.{length_push}
-use Rattle.std.proofs.lemmas.Cmp.{nat_list_cmp_total, tied_itself}
-use Rattle.std.proofs.lemmas.Map.Lookups.{exact_bytes}
-use Rattle.std.proofs.lemmas.Map.Text.{is_eq-slice_cmp}
+use Rattle.std.specs.BTreeMap.{BTreeMap, UpdatesBy}
+use Rattle.std.proofs.lemmas.List.{length_push, map-append, append-nil, append_assoc}
+use Rattle.std.proofs.lemmas.Map.Text.{btree_map_updates_str}
 use Rattle.xmp_values.specs.declared.hints.Hint.{Hint}
 use Rattle.known_prefixes.specs.Prefixes.{fixed_prefix}
-use Rattle.xmp_write.specs.Prefixes.{prefix_in, written_prefix}
-use Rattle.xmp_write.specs.Places.{place_in, HasPlacesFrom}
-use Rattle.xmp_write.proofs.OwnedTexts.{by_bytes, is_text}
-
-module _ {K X : Type 0} (bytes : K → List ℕ) where
-  covered : (b : Bool) (x y z : Option X) → cond b x z ≡ cond b x (cond b y z)
-  covered true x y z = refl
-  covered false x y z = refl
-
-  turned : (a b : Bool) (x y z : Option X) → (a ≡ true → b ≡ true → ⊥) → cond a x (cond b y z) ≡ cond b y (cond a x z)
-  turned true true x y z apart = absurd (apart refl refl)
-  turned true false x y z apart = refl
-  turned false true x y z apart = refl
-  turned false false x y z apart = refl
-
-  -- an entry put into a map is found by its text, and the others by theirs
-  module _ (text : List ℕ) (key : K) (value : X) where
-    finds : K → Bool
-    finds = is_text bytes text
-
-    same_text : (x : K) → is_text bytes text x ≡ true → text ≡ bytes x
-    same_text x found = exact_bytes text (bytes x) ((Equal-is (slice_cmp nat_cmp text (bytes x))).0 found)
-
-    apart : (x : K) → by_bytes bytes key x ≡ Greater → is_text bytes text x ≡ true → is_text bytes text key ≡ true → ⊥
-    apart x above here there =
-        let same = sym (same_text key there) ∙ same_text x here in
-        let tied = ap (λ other. slice_cmp nat_cmp (bytes key) other) (sym same) ∙ tied_itself nat_list_cmp_total (bytes key) in
-        let clash = sym tied ∙ above in
-        absurd cc
-
-    placed : (e : K × X) (es : List (K × X)) (o : Ordering) → o ≡ by_bytes bytes key e.0
-        → lookup (is_text bytes text) (insert_entry (by_bytes bytes) es key value) ≡ cond (is_text bytes text key) (Some value) (lookup (is_text bytes text) es)
-        → lookup (is_text bytes text) (match_ordering o ((key, value) ∷ e ∷ es) ((e.0, value) ∷ es) (e ∷ insert_entry (by_bytes bytes) es key value))
-        ≡ cond (is_text bytes text key) (Some value) (cond (is_text bytes text e.0) (Some e.1) (lookup (is_text bytes text) es))
-    placed e es Less is behind = refl
-    placed e es Equal is behind =
-        covered (is_text bytes text e.0) (Some value) (Some e.1) (lookup (is_text bytes text) es)
-        ∙ ap (λ found. cond (is_eq (slice_cmp nat_cmp text found)) (Some value) (cond (is_text bytes text e.0) (Some e.1) (lookup (is_text bytes text) es))) (sym (exact_bytes (bytes key) (bytes e.0) (sym is)))
-    placed e es Greater is behind =
-        ap (cond (is_text bytes text e.0) (Some e.1)) behind
-        ∙ turned (is_text bytes text e.0) (is_text bytes text key) (Some e.1) (Some value) (lookup (is_text bytes text) es) (apart e.0 (sym is))
-
-    pub lookup-insert_entry : (es : List (K × X)) → lookup (is_text bytes text) (insert_entry (by_bytes bytes) es key value) ≡ cond (is_text bytes text key) (Some value) (lookup (is_text bytes text) es)
-    lookup-insert_entry [] = refl
-    lookup-insert_entry (e ∷ es) = placed e es (by_bytes bytes key e.0) refl (lookup-insert_entry es)
+use Rattle.xmp_write.specs.Prefixes.{prefix_in, written_prefix, with_prefix, prefix_for}
+use Rattle.xmp_write.specs.Texts.{text_in}
+use Rattle.xmp_write.specs.Places.{HasPlacesFrom}
+use Rattle.xmp_write.proofs.TextSets.{key_cmp, bytes_eq-sym}
 
 -- a namespace put over the places of those behind it
-pub places_before : (at : ℕ) (h : Hint) (rest : List Hint) (key : Vec ℕ Global) (old new : BTreeMap (Vec ℕ Global) ℕ) → key.items ≡ h.space → HasPlacesFrom (at + 1) old rest
-    → new.entries ≡ insert_entry (by_bytes (λ (v : Vec ℕ Global). v.items)) old.entries key at → HasPlacesFrom at new (h ∷ rest)
-places_before at h rest key old new keyed has entries text =
-    ap (lookup (is_text (λ (v : Vec ℕ Global). v.items) text)) entries
-    ∙ lookup-insert_entry (λ (v : Vec ℕ Global). v.items) text key at old.entries
-    ∙ ap (λ here. cond here (Some at) (place_in old text)) (is_eq-slice_cmp text key.items ∙ ap (bytes_eq text) keyed)
-    ∙ ap (cond (bytes_eq text h.space) (Some at)) (has text)
+pub places_before : (at : ℕ) (key : Bor (List ℕ)) (rest : List (List ℕ)) (old new : BTreeMap (Bor (List ℕ)) ℕ) → HasPlacesFrom (at + 1) old rest
+    → UpdatesBy key_cmp (key_cmp key) old new (Some at) → HasPlacesFrom at new (key.now ∷ rest)
+places_before at key rest old new has updates text =
+    btree_map_updates_str key.now old new (Some at) updates text
+    ∙ ap (λ here. cond here (Some at) (text_in old text)) (bytes_eq-sym key.now text)
+    ∙ ap (cond (bytes_eq text key.now) (Some at)) (has text)
+
+-- the namespaces of a list
+abbrev pub spaces_in : List Hint → List (List ℕ)
+spaces_in = map (λ h. h.space)
+
+-- those that are given prefixes are those of the list that is made, in their order
+pub spaces_in-given : (hints given : List Hint) (spaces : List (List ℕ)) → spaces_in (fold (with_prefix hints) given spaces) ≡ spaces_in given ++ spaces
+spaces_in-given hints given [] = sym (append-nil (spaces_in given))
+spaces_in-given hints given (space ∷ spaces) =
+    let hint : Hint = record { space = space; prefix = prefix_for hints given space } in
+    spaces_in-given hints (with_prefix hints given space) spaces
+    ∙ ap (λ front. front ++ spaces) (map-append (λ (h : Hint). h.space) given (hint ∷ []))
+    ∙ append_assoc (spaces_in given) (space ∷ []) spaces
 
 -- what stands at a place, if there is one
 abbrev pub prefix_at : List Hint → Option ℕ → Option (List ℕ)
@@ -103,10 +66,14 @@ module _ (space : List ℕ) where
       (placed_behind (front ++ h ∷ []) rest ∙ ap (λ list. prefix_at list (position_from is_space (length (front ++ h ∷ [])) rest)) (moved front h rest)
       ∙ ap (λ at. prefix_at (front ++ h ∷ rest) (position_from is_space at rest)) (length_push front h))
 
+  position_from-spaces : (at : ℕ) (list : List Hint) → position_from (bytes_eq space) at (spaces_in list) ≡ position_from is_space at list
+  position_from-spaces at [] = refl
+  position_from-spaces at (h ∷ hs) = ap (cond (bytes_eq space h.space) (Some at)) (position_from-spaces (at + 1) hs)
+
   prefix_in-place : (list : List Hint) (place : Option ℕ) → place ≡ position_from is_space 0 list → prefix_in list space ≡ prefix_at list place
   prefix_in-place list place is = placed_behind [] list ∙ ap (prefix_at list) (sym is)
 
-  pub written_prefix-place : (list : List Hint) (place : Option ℕ) → fixed_prefix space ≡ None → place ≡ position_from is_space 0 list → written_prefix list space ≡ unwrap_or (prefix_at list place) []
+  pub written_prefix-place : (list : List Hint) (place : Option ℕ) → fixed_prefix space ≡ None → place ≡ position_from (bytes_eq space) 0 (spaces_in list) → written_prefix list space ≡ unwrap_or (prefix_at list place) []
   written_prefix-place list place free is =
       ap (λ fixed. unwrap_or fixed (unwrap_or (prefix_in list space) [])) free
-      ∙ ap (λ found. unwrap_or found []) (prefix_in-place list place is)
+      ∙ ap (λ found. unwrap_or found []) (prefix_in-place list place (is ∙ position_from-spaces 0 list))

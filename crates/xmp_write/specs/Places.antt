@@ -1,20 +1,15 @@
 -- The places of namespaces in a list.
-use Rattle.std.specs.Prelude.{◌≡◌, ℕ, List, Option, Vec}
-use Rattle.std.specs.declared.alloc.Global.{Global}
+use Rattle.std.specs.Prelude.{◌≡◌, ℕ, List, map}
+use Rattle.std.specs.Borrow.{Bor}
 use Rattle.std.specs.List.{position_from}
 use Rattle.std.specs.Str.{bytes_eq}
-use Rattle.std.specs.Ordering.{nat_cmp}
-use Rattle.std.specs.Cmp.Lexicographic.{slice_cmp}
-use Rattle.std.specs.BTreeMap.{BTreeMap, get_by}
+use Rattle.std.specs.BTreeMap.{BTreeMap}
 use Rattle.xmp_values.specs.declared.hints.Hint.{Hint}
-
--- what a map that owns its texts has for a text
-abbrev pub place_in : BTreeMap (Vec ℕ Global) ℕ → List ℕ → Option ℕ
-place_in places text = get_by (λ key. slice_cmp nat_cmp text key.items) places
+use Rattle.xmp_write.specs.Texts.{text_in}
 
 -- the first place of each namespace, of which the first is this
-abbrev pub HasPlacesFrom : ℕ → BTreeMap (Vec ℕ Global) ℕ → List Hint → Type 0
-HasPlacesFrom at places list = (space : List ℕ) → place_in places space ≡ position_from (λ h. bytes_eq space h.space) at list
+abbrev pub HasPlacesFrom : ℕ → BTreeMap (Bor (List ℕ)) ℕ → List (List ℕ) → Type 0
+HasPlacesFrom at places spaces = (space : List ℕ) → text_in places space ≡ position_from (bytes_eq space) at spaces
 
-abbrev pub HasPlaces : BTreeMap (Vec ℕ Global) ℕ → List Hint → Type 0
-HasPlaces = HasPlacesFrom 0
+abbrev pub HasPlaces : BTreeMap (Bor (List ℕ)) ℕ → List Hint → Type 0
+HasPlaces places list = HasPlacesFrom 0 places (map (λ h. h.space) list)

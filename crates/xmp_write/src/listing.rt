@@ -94,7 +94,7 @@ fn push_shape_word(out: &mut Vec<u8>, shape: &Shape<'_>) -> Result<(), Memory>
 }
 
 /// Puts a name with its prefix at the end.
-fn push_name(out: &mut Vec<u8>, prefixes: &Prefixes, name: &Name<'_>) -> Result<(), Memory>
+fn push_name(out: &mut Vec<u8>, prefixes: &Prefixes<'_>, name: &Name<'_>) -> Result<(), Memory>
     ensures { OnOk result (out.new.items ≡ out.old.items ++ spelled prefixes.now name.now) }
 {
     out.extend_from_slice(prefixes.prefix_of(name.space.bytes()))?;
@@ -116,7 +116,7 @@ impl Writer {
     }
 
     /// Goes on to a name behind the path.
-    fn enter(&mut self, prefixes: &Prefixes, name: &Name<'_>) -> Result<(), Memory>
+    fn enter(&mut self, prefixes: &Prefixes<'_>, name: &Name<'_>) -> Result<(), Memory>
         ensures text { self.new.text.items ≡ self.old.text.items }
         ensures path { OnOk result (self.new.path.items ≡ self.old.path.items ++ spelled prefixes.now name.now) }
     {
@@ -138,7 +138,7 @@ impl Writer {
 /// Puts the lines of a value at the path: its own, then those of its qualifiers, then those of its
 /// fields or items.
 #[cycle(lines)]
-fn push_value(writer: &mut Writer, prefixes: &Prefixes, value: &Value<'_>) -> Result<(), Memory>
+fn push_value(writer: &mut Writer, prefixes: &Prefixes<'_>, value: &Value<'_>) -> Result<(), Memory>
     ensures { OnOk result (Adds writer.old writer.new (value_lines prefixes.now writer.old.path.items value.now)) }
 {
     writer.push_line(&value.shape)?;
@@ -147,7 +147,7 @@ fn push_value(writer: &mut Writer, prefixes: &Prefixes, value: &Value<'_>) -> Re
 }
 
 #[cycle(lines)]
-fn push_shape(writer: &mut Writer, prefixes: &Prefixes, shape: &Shape<'_>) -> Result<(), Memory>
+fn push_shape(writer: &mut Writer, prefixes: &Prefixes<'_>, shape: &Shape<'_>) -> Result<(), Memory>
     ensures { OnOk result (Adds writer.old writer.new (shape_lines prefixes.now writer.old.path.items shape.now)) }
 {
     match shape {
@@ -161,7 +161,7 @@ fn push_shape(writer: &mut Writer, prefixes: &Prefixes, shape: &Shape<'_>) -> Re
 #[cycle(lines)]
 fn push_members(
     writer: &mut Writer,
-    prefixes: &Prefixes,
+    prefixes: &Prefixes<'_>,
     separator: &[u8],
     members: &[Member<'_>],
 ) -> Result<(), Memory>
@@ -177,7 +177,11 @@ fn push_members(
 }
 
 #[cycle(lines)]
-fn push_member(writer: &mut Writer, prefixes: &Prefixes, member: &Member<'_>) -> Result<(), Memory>
+fn push_member(
+    writer: &mut Writer,
+    prefixes: &Prefixes<'_>,
+    member: &Member<'_>,
+) -> Result<(), Memory>
     ensures { OnOk result (Adds writer.old writer.new (member_lines prefixes.now writer.old.path.items member.now)) }
 {
     let len = writer.path.len();
@@ -188,7 +192,11 @@ fn push_member(writer: &mut Writer, prefixes: &Prefixes, member: &Member<'_>) ->
 }
 
 #[cycle(lines)]
-fn push_items(writer: &mut Writer, prefixes: &Prefixes, items: &[Value<'_>]) -> Result<(), Memory>
+fn push_items(
+    writer: &mut Writer,
+    prefixes: &Prefixes<'_>,
+    items: &[Value<'_>],
+) -> Result<(), Memory>
     ensures { OnOk result (Adds writer.old writer.new (items_from prefixes.now writer.old.path.items 1 items.now)) }
 {
     for at in 0..items.len() {
@@ -200,7 +208,7 @@ fn push_items(writer: &mut Writer, prefixes: &Prefixes, items: &[Value<'_>]) -> 
 #[cycle(lines)]
 fn push_item(
     writer: &mut Writer,
-    prefixes: &Prefixes,
+    prefixes: &Prefixes<'_>,
     number: usize,
     item: &Value<'_>,
 ) -> Result<(), Memory>
@@ -216,7 +224,7 @@ fn push_item(
 /// The lines of a tree with the prefixes of its text: `about VALUE`, then for each property, and
 /// for each of its parts, `PATH KIND REST`. With the prefixes of the tree and of the form of every
 /// property without a note each name has its prefix.
-pub fn lines(alloc: Global, tree: &Tree<'_>, prefixes: &Prefixes) -> Result<Bytes, Memory>
+pub fn lines(alloc: Global, tree: &Tree<'_>, prefixes: &Prefixes<'_>) -> Result<Bytes, Memory>
     ensures { IfOk result (λ bytes. bytes ≡ lines prefixes.now tree.now) }
 {
     let mut writer = Writer {

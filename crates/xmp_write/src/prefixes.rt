@@ -2,7 +2,8 @@
 ghost use Rattle.std.specs.Prelude.{◌≡◌, ◌+◌, ◌≤◌, [], IfOk, length, slice_get, unwrap_or};
 ghost use Rattle.std.specs.Option.{option_copied, option_map};
 ghost use Rattle.xmp_write.specs.Prefixes.{prefixes, written_prefix};
-ghost use Rattle.xmp_write.specs.Places.{HasPlaces};
+ghost use Rattle.xmp_write.specs.Texts.{texts_of};
+ghost use Rattle.xmp_write.specs.Places.{HasPlacesFrom};
 
 use crate::forms::Form;
 use crate::giving::give;
@@ -18,13 +19,13 @@ use xmp_values::{Hint, Hints, Memory, Sequence};
 /// The namespaces that a written text declares, each with its prefix, in the order of their first
 /// use. A look-up costs the logarithm of their number.
 #[derive(Drop)]
-pub struct Prefixes {
+pub struct Prefixes<'t> {
     list: Sequence<Hint>,
-    /// The place of each namespace in the list.
-    places: BTreeMap<Vec<u8>, usize>,
+    /// The place of each namespace in the list. The namespaces are borrowed from the tree.
+    places: BTreeMap<&'t [u8], usize>,
 }
 
-impl Model for Prefixes {
+impl<'t> Model for Prefixes<'t> {
     ghost use Rattle.std.specs.Prelude.{List};
     ghost use Rattle.xmp_values.specs.declared.hints.Hint.{Hint};
     ghost use Rattle.xmp_write.specs.Places.{HasPlaces};
@@ -38,35 +39,35 @@ impl Model for Prefixes {
 
 /// The place of each namespace. They are put in from the last on, so that the first of a namespace
 /// counts.
-fn places_of(alloc: Global, list: &[Hint]) -> Result<BTreeMap<Vec<u8>, usize>, Memory>
-    ensures { IfOk result (λ places. HasPlaces places list.now) }
+fn places_of<'t>(alloc: Global, spaces: &[&'t [u8]]) -> Result<BTreeMap<&'t [u8], usize>, Memory>
+    ensures { IfOk result (λ places. HasPlacesFrom 0 places (texts_of spaces.now)) }
 {
     let mut places = BTreeMap::new(alloc);
-    let mut at = list.len();
+    let mut at = spaces.len();
     while at > 0 {
         at -= 1;
-        let space = Vec::from_slice(alloc, list[at].space.as_slice())?;
-        places.insert(space, at)?;
+        places.insert(spaces[at], at)?;
     }
     Ok(places)
 }
 
-impl Prefixes {
+impl<'t> Prefixes<'t> {
     /// The prefixes of the text of a tree in a form, whose properties are there. Each namespace
     /// has its known prefix, else that of its hint if it fits, else `ns` and the least free number.
     pub fn of(
         alloc: Global,
-        tree: &Tree<'_>,
+        tree: &'t Tree<'_>,
         hints: &Hints,
         form: &Form,
-    ) -> Result<Prefixes, Memory>
+    ) -> Result<Prefixes<'t>, Memory>
         requires { form.now.first + form.now.count ≤ length tree.now.props }
         ensures { IfOk result (λ p. p ≡ prefixes tree.now hints.now form.now) }
     {
         let uses = declared_spaces(alloc, tree, form)?;
+        let spaces = uses.spaces();
         let hinted = Hinted::new(alloc, hints)?;
-        let list = give(alloc, &hinted, uses.spaces())?;
-        let places = places_of(alloc, list.as_slice())?;
+        let list = give(alloc, &hinted, spaces)?;
+        let places = places_of(alloc, spaces)?;
         Ok(Prefixes { list, places })
     }
 

@@ -159,7 +159,7 @@ fn hints_of(alloc: Global, list: &str) -> Result<Hints, Memory> {
 }
 
 /// The prefixes, each with a comma.
-fn listed(alloc: Global, prefixes: &Prefixes) -> Result<Vec<u8>, Memory> {
+fn listed(alloc: Global, prefixes: &Prefixes<'_>) -> Result<Vec<u8>, Memory> {
     let mut list = Vec::new(alloc);
     for at in 0..prefixes.len() {
         if let Some(hint) = prefixes.get(at) {
@@ -170,7 +170,12 @@ fn listed(alloc: Global, prefixes: &Prefixes) -> Result<Vec<u8>, Memory> {
     Ok(list)
 }
 
-fn shows(alloc: Global, tree: &Tree<'_>, prefixes: &Prefixes, want: &str) -> Result<bool, Memory> {
+fn shows(
+    alloc: Global,
+    tree: &Tree<'_>,
+    prefixes: &Prefixes<'_>,
+    want: &str,
+) -> Result<bool, Memory> {
     let shown = lines(alloc, tree, prefixes)?;
     Ok(shown.as_slice().strip_prefix(b"about \n") == Some(want.as_bytes()))
 }
