@@ -19,20 +19,10 @@ mod tests;
 mod visits;
 mod words;
 
-pub use admission::{has_qualified_uri, has_two_values, has_value_again};
-pub use form_rules::form_rule;
-pub use forms::{Form, form_of, has_parse_type, is_resource};
-pub use member_rules::{tree_deep, twice_value};
-pub use name_rules::{about_of, name_rule};
-pub use parts::{
-    as_element, bare_about_value, element_count, first_element, has_bare_about, has_blank_text,
-    has_lang, has_other_attribute, has_own_attribute, has_rdf_attribute, has_rdf_element,
-    lang_value, rdf_element_count, rdf_value,
-};
+pub use forms::{Form, form_of};
+pub use name_rules::{about_bytes, about_text};
+pub use parts::{first_element, lang_value, rdf_value};
 pub use roles::{Holder, Role};
 pub use rules::{broken, broken_top};
-pub use visits::{has_value_member, is_typed, members_holder, node_holder};
-pub use words::{
-    in_none, in_rdf, in_xml, is_bare_about, is_container, is_lang, is_meta, is_own, is_rdf,
-    same_name,
-};
+pub use visits::{members_holder, node_holder};
+pub use words::{is_own, is_rdf};

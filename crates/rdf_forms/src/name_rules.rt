@@ -2,24 +2,32 @@
 //! about: NoRdf to RdfName. ISO 16684-1, 7.3 and 7.4.
 ghost use Rattle.std.specs.Prelude.{◌≡◌};
 ghost use Rattle.rdf_forms.specs.Parts.{elements_of};
+ghost use Rattle.rdf_forms.specs.FormViews.{about_in};
 ghost use Rattle.rdf_forms.specs.NameRules.{is_property_or_node, has_some_attribute, is_one_rdf, no_rdf, not_description, about_of, differs, about_differs, is_bare, is_bare_element, no_namespace, is_xml, xml_name, is_type_attributes, is_type_element, is_allowed_member, rdf_name, name_rule};
 
 use crate::parts::{bare_about_value, element_count, first_element, has_blank_text, rdf_value};
 use crate::roles::{Holder, Role};
 use crate::words::{in_none, in_rdf, in_xml, is_bare_about, is_lang, is_meta, is_rdf};
 use xml_grammar::{Attribute, Element};
-use xmp_values::Rule;
+use xmp_values::{Rule, Text};
 
-/// The about of a top, where `rdf:about` counts before `about`; empty where there is none.
+/// The about of a top, where `rdf:about` counts before `about`.
 #[tactic(auto, unfolding(crate::specs::NameRules::about_of))]
-pub fn about_of<'e, 'p>(top: &'e Element<'p>) -> &'e [u8]
-    ensures { result.now ≡ about_of top.now }
+pub fn about_text<'e, 'p>(top: &'e Element<'p>) -> Option<&'e Text<'p>>
+    ensures { about_in result ≡ about_of top.now }
 {
-    if let Some(about) = rdf_value(b"about".as_slice(), top) {
-        return about.bytes();
+    match rdf_value(b"about".as_slice(), top) {
+        Some(about) => Some(about),
+        None => bare_about_value(top),
     }
-    match bare_about_value(top) {
-        Some(about) => about.bytes(),
+}
+
+/// The bytes of an about, which is empty where there is none.
+pub fn about_bytes<'e>(about: Option<&'e Text<'_>>) -> &'e [u8]
+    ensures { result.now ≡ about_in about.entry }
+{
+    match about {
+        Some(text) => text.bytes(),
         None => b"".as_slice(),
     }
 }
@@ -71,7 +79,7 @@ fn about_differs(role: Role, element: &Element<'_>, first: &[u8]) -> bool
     ensures { result ≡ about_differs role element.now first.now }
 {
     match role {
-        Role::Top => differs(about_of(element), first),
+        Role::Top => differs(about_bytes(about_text(element)), first),
         _ => false,
     }
 }

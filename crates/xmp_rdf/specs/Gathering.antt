@@ -1,10 +1,10 @@
 -- What is kept of the tops that were read.
-use Rattle.std.specs.Prelude.{◌≡◌, ℕ, List, [], ◌∷◌, ◌++◌, Option, Some, None, Result, Ok, Err}
+use Rattle.std.specs.Prelude.{◌≡◌, ℕ, List, [], ◌∷◌, ◌++◌, Result, Ok, Err}
 use Rattle.std.specs.List.{flat_map}
-use Rattle.std.specs.Borrow.{Bor}
 use Rattle.xmp_values.specs.declared.text.Name.{Name}
 use Rattle.xml_grammar.specs.declared.elements.Element.{Element}
 use Rattle.rdf_forms.specs.NameRules.{first_about}
+use Rattle.rdf_forms.specs.FormViews.{about_in}
 use Rattle.rdf_forms.specs.MemberRules.{member_names}
 use Rattle.rdf_forms.specs.Meaning.{Placed}
 use Rattle.rdf_forms.specs.Entering.{Holds}
@@ -12,11 +12,6 @@ use Rattle.xmp_rdf.specs.declared.stops.RdfStop.{RdfStop}
 use Rattle.xmp_rdf.specs.declared.tops.Gathered.{Gathered}
 use Rattle.xmp_rdf.specs.Answering.{Fails}
 use Rattle.xmp_rdf.specs.Reading.{checked_top, read_tops}
-
--- the text of an about, which is empty where there is none
-abbrev pub about_in : Option (Bor (List ℕ)) → List ℕ
-about_in None = []
-about_in (Some text) = text.now
 
 -- a first about and a set of names are those of these tops
 pub record IsBehind (tops : List Element) (first : List ℕ) (names : List Name) : Type 0 where

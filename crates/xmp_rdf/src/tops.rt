@@ -6,17 +6,17 @@ ghost use Rattle.xml_grammar.specs.declared.elements.Attribute.{Attribute as Att
 ghost use Rattle.rdf_forms.specs.Words.{is_rdf};
 ghost use Rattle.rdf_forms.specs.Parts.{name_of, place_of, elements_in, own_attributes};
 ghost use Rattle.rdf_forms.specs.Values.{attribute_member};
-ghost use Rattle.rdf_forms.specs.NameRules.{about_of};
+ghost use Rattle.rdf_forms.specs.FormViews.{about_in};
 ghost use Rattle.xmp_rdf.specs.Answering.{Gives};
 ghost use Rattle.xmp_rdf.specs.Reading.{read_placed, read_rdf, read_root};
-ghost use Rattle.xmp_rdf.specs.Gathering.{about_in, IsBehind, Enters, Gathers};
+ghost use Rattle.xmp_rdf.specs.Gathering.{IsBehind, Enters, Gathers};
 
-use crate::abouts::{about_again, about_bytes, first_about};
+use crate::abouts::{about_again, first_about};
 use crate::members::attribute_member;
 use crate::stops::RdfStop;
 use crate::texts::name_again;
 use crate::walk::{check, member_depth, property};
-use rdf_forms::{Holder, Role, broken_top, first_element, is_own, is_rdf};
+use rdf_forms::{Holder, Role, about_bytes, broken_top, first_element, is_own, is_rdf};
 use std::alloc::Global;
 use xml_grammar::{Attribute, Child, Element};
 use xmp_tree::Member;

@@ -4,7 +4,8 @@ use Rattle.xml_grammar.specs.declared.elements.Element.{Element}
 use Rattle.rdf_forms.specs.Parts.{elements_in}
 use Rattle.rdf_forms.specs.Entering.{Holds}
 use Rattle.xmp_rdf.specs.Reading.{read_tops}
-use Rattle.xmp_rdf.specs.Gathering.{about_in, IsBehind, Gathers}
+use Rattle.rdf_forms.specs.FormViews.{about_in}
+use Rattle.xmp_rdf.specs.Gathering.{IsBehind, Gathers}
 use Rattle.xmp_rdf.proofs.Exits.{exit_to, fails_whole}
 use Rattle.xmp_rdf.proofs.Readings.{elements_more}
 use Rattle.xmp_rdf.proofs.TopReadings.{tops-none, tops-loop-more, tops-loop-stop}

@@ -1,7 +1,8 @@
 use Rattle.std.proofs.Common.{◌≡◌, take, Ok, []}
 use Rattle.rdf_forms.specs.Parts.{elements_in}
 use Rattle.xmp_rdf.specs.Reading.{read_tops}
-use Rattle.xmp_rdf.specs.Gathering.{about_in, IsBehind}
+use Rattle.rdf_forms.specs.FormViews.{about_in}
+use Rattle.xmp_rdf.specs.Gathering.{IsBehind}
 use Rattle.xmp_rdf.proofs.tops.tops_of.Given as goal
 
 abbrev pub invariant-loop-child : goal.invariant-loop-child

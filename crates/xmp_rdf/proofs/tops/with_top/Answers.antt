@@ -3,7 +3,8 @@ use Rattle.xml_grammar.specs.declared.elements.Child.{Child}
 use Rattle.rdf_forms.specs.Parts.{elements_in, elements_of}
 use Rattle.rdf_forms.specs.Meaning.{Placed}
 use Rattle.xmp_rdf.specs.Reading.{checked_top, read_placed, read_tops}
-use Rattle.xmp_rdf.specs.Gathering.{about_in, IsBehind, Gathers}
+use Rattle.rdf_forms.specs.FormViews.{about_in}
+use Rattle.xmp_rdf.specs.Gathering.{IsBehind, Gathers}
 use Rattle.xmp_rdf.proofs.Exits.{exit_to, fails_whole}
 use Rattle.xmp_rdf.proofs.Faults.{and_then-ok, and_then-err}
 use Rattle.xmp_rdf.proofs.TopReadings.{tops-one, attributes_placed, behind-more}

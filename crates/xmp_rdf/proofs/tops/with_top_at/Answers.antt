@@ -1,7 +1,8 @@
 use Rattle.std.proofs.Common.{◌∙◌, ◌++◌, List, ap, sym, subst, append-nil}
 use Rattle.xml_grammar.specs.declared.elements.Element.{Element}
 use Rattle.xmp_rdf.specs.Reading.{read_tops}
-use Rattle.xmp_rdf.specs.Gathering.{about_in, IsBehind}
+use Rattle.rdf_forms.specs.FormViews.{about_in}
+use Rattle.xmp_rdf.specs.Gathering.{IsBehind}
 use Rattle.xmp_rdf.proofs.TopReadings.{tops-none, top-text}
 use Rattle.xmp_rdf.proofs.tops.with_top_at.Goals as goal
 
