@@ -1,31 +1,23 @@
 //! The names that RDF/XML gives a meaning. ISO 16684-1, 7.3 and 7.4.
 ghost use Rattle.std.specs.Prelude.{◌≡◌};
-ghost use Rattle.rdf_forms.specs.Words.{same_name, is_rdf, is_meta, is_container, in_rdf, in_xml, in_none, is_lang, is_bare_about, is_own};
+ghost use Rattle.rdf_forms.specs.Words.{is_rdf, is_meta, is_container, in_rdf, in_xml, in_none, is_lang, is_bare_about, is_own};
 
-use xmp_values::Name;
-
-/// Whether two names have one namespace and one local part.
-#[tactic(auto, unfolding(crate::specs::Words::same_name))]
-pub fn same_name(first: &Name<'_>, second: &Name<'_>) -> bool
-    ensures { result ≡ same_name first.now second.now }
-{
-    first.space.bytes() == second.space.bytes() && first.local.bytes() == second.local.bytes()
-}
+use xmp_values::{Name, is_rdf_space, is_xml_space};
 
 /// Whether the name is in RDF's namespace.
-#[tactic(auto, unfolding(crate::specs::Words::in_rdf, xmp_values::specs::Spaces::rdf_space))]
+#[tactic(auto, unfolding(crate::specs::Words::in_rdf))]
 pub fn in_rdf(name: &Name<'_>) -> bool
     ensures { result ≡ in_rdf name.now }
 {
-    name.space.bytes() == b"http://www.w3.org/1999/02/22-rdf-syntax-ns#".as_slice()
+    is_rdf_space(name.space.bytes())
 }
 
 /// Whether the name is in XML's namespace, that of `xml:lang`.
-#[tactic(auto, unfolding(crate::specs::Words::in_xml, xmp_values::specs::Spaces::xml_space))]
+#[tactic(auto, unfolding(crate::specs::Words::in_xml))]
 pub fn in_xml(name: &Name<'_>) -> bool
     ensures { result ≡ in_xml name.now }
 {
-    name.space.bytes() == b"http://www.w3.org/XML/1998/namespace".as_slice()
+    is_xml_space(name.space.bytes())
 }
 
 /// Whether the name has no namespace.

@@ -1,42 +1,19 @@
-//! Hints in a copy, and hints of two lists in one.
+//! Hints of two lists in one.
 ghost use Rattle.std.specs.Prelude.{◌≡◌, ◌++◌, not, filter, IfOk};
 ghost use Rattle.xmp_rdf.specs.Merging.{new_hints};
 ghost use Rattle.xmp_rdf.specs.SpaceSets.{is_among, HasSpaces};
 
 use std::alloc::Global;
 use std::collections::BTreeSet;
-use xmp_values::{Bytes, Hint, Hints, Memory, Sequence};
-
-fn copy_hint(alloc: Global, hint: &Hint) -> Result<Hint, Memory>
-    ensures { IfOk result (λ h. h ≡ hint.now) }
-{
-    let space = Bytes::from_slice(alloc, hint.space.as_slice())?;
-    let prefix = Bytes::from_slice(alloc, hint.prefix.as_slice())?;
-    Ok(Hint { space, prefix })
-}
-
-/// The same hints again, in a copy.
-pub fn copy_hints(alloc: Global, hints: &Hints) -> Result<Hints, Memory>
-    ensures { IfOk result (λ h. h ≡ hints.now) }
-{
-    let mut list = Sequence::new(alloc);
-    for at in 0..hints.len() {
-        if let Some(hint) = hints.get(at) {
-            list.push(copy_hint(alloc, hint)?)?;
-        }
-    }
-    Ok(Hints::from_list(list))
-}
+use xmp_values::{Hint, Hints, Memory, Sequence};
 
 /// The namespaces of hints.
 fn spaces_of<'h>(alloc: Global, hints: &'h Hints) -> Result<BTreeSet<&'h [u8]>, Memory>
     ensures { IfOk result (λ set. HasSpaces set hints.now) }
 {
     let mut spaces = BTreeSet::new(alloc);
-    for at in 0..hints.len() {
-        if let Some(hint) = hints.get(at) {
-            spaces.insert(hint.space.as_slice())?;
-        }
+    for hint in hints.as_slice() {
+        spaces.insert(hint.space.as_slice())?;
     }
     Ok(spaces)
 }

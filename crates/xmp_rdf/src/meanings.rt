@@ -2,7 +2,6 @@
 ghost use Rattle.xmp_rdf.specs.Answering.{Gives};
 ghost use Rattle.xmp_rdf.specs.Meanings.{reading};
 
-use crate::hints::copy_hints;
 use crate::parting::{Parted, note_digits, parts_of};
 use crate::stops::RdfStop;
 use crate::tops::{Contents, root_contents};
@@ -43,7 +42,7 @@ pub fn tree_of<'p>(alloc: Global, doc: &Doc<'p>) -> Result<Meaning<'p>, RdfStop>
         notes,
     } = parts_of(alloc, placed)?;
     let tree = Tree { about, props };
-    let hints = copy_hints(alloc, doc.declared())?;
+    let hints = doc.declared().again(alloc)?;
     let note = note_digits(notes.as_slice());
     Ok(Meaning {
         tree,

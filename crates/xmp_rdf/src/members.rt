@@ -4,7 +4,7 @@ ghost use Rattle.xmp_tree.specs.Wf.{lang_name, type_name};
 ghost use Rattle.rdf_forms.specs.Parts.{own_attributes};
 ghost use Rattle.rdf_forms.specs.Values.{plain, attribute_member, lang_member, lang_of, type_of, is_node_member, node_members};
 
-use crate::texts::{joined, name_again};
+use crate::texts::joined;
 use rdf_forms::{is_own, is_rdf, lang_value};
 use std::alloc::Global;
 use xml_grammar::{Attribute, Element};
@@ -34,7 +34,7 @@ fn one_member<'p>(alloc: Global, member: Member<'p>) -> Result<Members<'p>, Memo
 pub fn attribute_member<'p>(alloc: Global, attribute: &Attribute<'p>) -> Result<Member<'p>, Memory>
     ensures { IfOk result (λ m. m ≡ attribute_member attribute.now) }
 {
-    let name = name_again(alloc, &attribute.name)?;
+    let name = attribute.name.again(alloc)?;
     let value = plain(alloc, attribute.value.again(alloc)?);
     Ok(Member { name, value })
 }

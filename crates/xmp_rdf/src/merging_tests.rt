@@ -1,4 +1,3 @@
-use crate::hints::copy_hints;
 use crate::{Meaning, MergeStop, Places, merge, own};
 use std::alloc::Global;
 use std::test::Fail;
@@ -26,7 +25,7 @@ fn property(alloc: Global, local: &'static str) -> Member<'static> {
 
 fn hints_in(alloc: Global, text: &'static str) -> Option<Hints> {
     let doc = read(alloc, text.as_bytes()).ok()?;
-    copy_hints(alloc, doc.declared()).ok()
+    doc.declared().again(alloc).ok()
 }
 
 /// A meaning of properties, of which the first has this place, and each other the next.
@@ -87,10 +86,9 @@ fn has_names(meaning: &Meaning<'_>, locals: &str) -> bool {
 
 fn has_prefixes(meaning: &Meaning<'_>, prefixes: &str) -> bool {
     let mut words = prefixes.split_whitespace();
-    for at in 0..meaning.hints.len() {
+    for hint in meaning.hints.as_slice() {
         let prefix = words.next().unwrap_or("");
-        if !matches!(meaning.hints.get(at), Some(hint) if hint.prefix.as_slice() == prefix.as_bytes())
-        {
+        if hint.prefix.as_slice() != prefix.as_bytes() {
             return false;
         }
     }

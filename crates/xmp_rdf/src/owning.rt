@@ -1,7 +1,6 @@
 //! A meaning that owns its texts.
 ghost use Rattle.std.specs.Prelude.{◌≡◌, IfOk};
 
-use crate::hints::copy_hints;
 use crate::meanings::{Meaning, Places};
 use std::alloc::Global;
 use xmp_tree::copy;
@@ -21,7 +20,7 @@ pub fn own<'q>(alloc: Global, meaning: &Meaning<'_>) -> Result<Meaning<'q>, Memo
     ensures { IfOk result (λ m. m ≡ meaning.now) }
 {
     let tree = copy(alloc, &meaning.tree)?;
-    let hints = copy_hints(alloc, &meaning.hints)?;
+    let hints = meaning.hints.again(alloc)?;
     let note = note_again(&meaning.note);
     let places = Places::from_slice(alloc, meaning.places.as_slice())?;
     Ok(Meaning {

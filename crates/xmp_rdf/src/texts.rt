@@ -1,4 +1,4 @@
-//! Texts and names that are borrowed where the document's are, and texts that are joined.
+//! Texts that are borrowed where the document's are, and texts that are joined.
 ghost use Rattle.std.specs.Prelude.{◌≡◌, ◌++◌, [], IfOk, IfSome, IfNone};
 ghost use Rattle.std.specs.List.{flat_map};
 ghost use Rattle.std.specs.Option.{option_copied};
@@ -6,16 +6,7 @@ ghost use Rattle.rdf_forms.specs.Parts.{text_at, own_text};
 
 use std::alloc::Global;
 use xml_grammar::{Child, Element};
-use xmp_values::{Memory, Name, Sequence, Text};
-
-/// The same name again. One of the document is only borrowed again.
-pub fn name_again<'p>(alloc: Global, name: &Name<'p>) -> Result<Name<'p>, Memory>
-    ensures { IfOk result (λ n. n ≡ name.now) }
-{
-    let space = name.space.again(alloc)?;
-    let local = name.local.again(alloc)?;
-    Ok(Name { space, local })
-}
+use xmp_values::{Memory, Sequence, Text};
 
 /// One text behind another, in a copy.
 pub fn joined<'q>(alloc: Global, first: &Text<'_>, second: &Text<'_>) -> Result<Text<'q>, Memory>

@@ -14,7 +14,6 @@ ghost use Rattle.xmp_rdf.specs.Gathering.{IsBehind, Enters, Gathers};
 use crate::abouts::{about_again, first_about};
 use crate::members::attribute_member;
 use crate::stops::RdfStop;
-use crate::texts::name_again;
 use crate::walk::{check, member_depth, property};
 use rdf_forms::{Holder, Role, about_bytes, broken_top, first_element, is_own, is_rdf};
 use std::alloc::Global;
@@ -90,7 +89,7 @@ fn with_child<'p>(
     };
     let role = Role::Property(Holder::Top);
     let value = property(alloc, levels, role, member_depth(0, element), element)?;
-    let name = name_again(alloc, &element.name)?;
+    let name = element.name.again(alloc)?;
     let mut placed = before;
     placed.push((element.at(), Member { name, value }))?;
     Ok(placed)

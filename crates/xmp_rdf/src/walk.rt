@@ -12,7 +12,7 @@ ghost use Rattle.xmp_rdf.specs.Reading.{checked, read_within, read_form, read_me
 
 use crate::members::{lang_of, node_members, plain, type_of};
 use crate::stops::RdfStop;
-use crate::texts::{name_again, own_text};
+use crate::texts::own_text;
 use crate::values::{by_attributes, by_members, kind_of};
 use rdf_forms::{Form, Holder, Role, broken, form_of, is_rdf, members_holder, node_holder};
 use std::alloc::Global;
@@ -197,7 +197,7 @@ fn with_member<'p>(
     };
     let role = Role::Property(holder);
     let value = property(alloc, levels, role, member_depth(depth, element), element)?;
-    let name = name_again(alloc, &element.name)?;
+    let name = element.name.again(alloc)?;
     let mut members = before;
     members.push(Member { name, value })?;
     Ok(members)

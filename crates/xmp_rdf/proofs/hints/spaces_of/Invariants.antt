@@ -2,5 +2,5 @@ use Rattle.std.proofs.Common.{take}
 use Rattle.xmp_rdf.specs.SpaceSets.{HasSpaces}
 use Rattle.xmp_rdf.proofs.hints.spaces_of.Given as goal
 
-abbrev pub invariant-loop-at : goal.invariant-loop-at
-invariant-loop-at l = HasSpaces l.spaces (take l.at l.hints)
+abbrev pub invariant-loop-hint : goal.invariant-loop-hint
+invariant-loop-hint l = HasSpaces l.spaces (take l.hint-index l.hint-items)
