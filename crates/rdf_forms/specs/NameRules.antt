@@ -96,7 +96,7 @@ is_type_element e = is_type_attributes (attributes_of e) && is_childless (elemen
 -- `rdf:value` may be a member of a value, and `rdf:type` beside it
 unfoldable pub is_allowed_member : Holder → Element → Bool
 is_allowed_member holders.Top e = false
-is_allowed_member (holders.Value with_value typed) e =
+is_allowed_member (holders.Value with_value) e =
     is_rdf (codes "value") (name_of e) || (is_rdf (codes "type") (name_of e) && with_value && is_type_element e)
 
 unfoldable pub rdf_name : Role → Element → Bool

@@ -29,10 +29,10 @@ is_typed n = not (is_rdf (codes "Description") (name_of n))
 
 -- what holds the members of a property or item with `rdf:parseType="Resource"`, and those of a node
 unfoldable pub members_holder : Element → Holder
-members_holder e = holders.Value (has_element (is_rdf (codes "value")) e) false
+members_holder e = holders.Value (has_element (is_rdf (codes "value")) e)
 
 unfoldable pub node_holder : Element → Holder
-node_holder n = holders.Value (has_value_member n) (is_typed n)
+node_holder n = holders.Value (has_value_member n)
 
 -- A member is one deeper than what holds it, but `rdf:value` is as deep.
 unfoldable pub member_depth : ℕ → Element → ℕ

@@ -173,7 +173,7 @@ fn is_allowed_member(holder: Holder, element: &Element<'_>) -> bool
 {
     match holder {
         Holder::Top => false,
-        Holder::Value { with_value, .. } => {
+        Holder::Value { with_value } => {
             is_rdf(b"value".as_slice(), &element.name)
                 || (is_rdf(b"type".as_slice(), &element.name)
                     && with_value

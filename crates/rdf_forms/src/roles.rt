@@ -5,9 +5,8 @@
 pub enum Holder {
     /// A top, whose members are the properties of the tree.
     Top,
-    /// A value by its members; whether `rdf:value` is one of them, and whether the value's
-    /// node has a type of its own.
-    Value { with_value: bool, typed: bool },
+    /// A value by its members, and whether `rdf:value` is one of them.
+    Value { with_value: bool },
 }
 
 /// The part that an element plays, fixed by its ancestors.

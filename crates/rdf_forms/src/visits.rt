@@ -30,7 +30,6 @@ pub fn members_holder(element: &Element<'_>) -> Holder
 {
     Holder::Value {
         with_value: has_rdf_element(b"value".as_slice(), element),
-        typed: false,
     }
 }
 
@@ -41,6 +40,5 @@ pub fn node_holder(node: &Element<'_>) -> Holder
 {
     Holder::Value {
         with_value: has_value_member(node),
-        typed: is_typed(node),
     }
 }

@@ -82,11 +82,11 @@ near_member levels depth e c reached enough held = by (cases_Bool (is_value_elem
 -- ---- members
 
 module _ (levels : ℕ) (law : FormedAt levels) (depth : ℕ) (e : Element) (reached : depth ≤ 24) (enough : Enough (suc levels) depth e) where
-  one_child : (with_value typed : Bool) (c : Element) → IsSound c → IsNear levels depth c
-      → IsFaultless (property_visits levels (roles.Property (holders.Value with_value typed)) (member_depth depth c) c)
-      → IsChild depth with_value typed (value_within levels) c
-  one_child with_value typed c sound at h =
-      let role : Role = roles.Property (holders.Value with_value typed) in
+  one_child : (with_value : Bool) (c : Element) → IsSound c → IsNear levels depth c
+      → IsFaultless (property_visits levels (roles.Property (holders.Value with_value)) (member_depth depth c) c)
+      → IsChild depth with_value (value_within levels) c
+  one_child with_value c sound at h =
+      let role : Role = roles.Property (holders.Value with_value) in
       record {
         sound = sound;
         unbroken = first_unbroken levels role (member_depth depth c) c (some_levels levels (member_depth depth c) c at.near at.enough) h;
@@ -94,18 +94,18 @@ module _ (levels : ℕ) (law : FormedAt levels) (depth : ℕ) (e : Element) (rea
       }
 
   -- the child elements of e, or of its node, as members
-  pub children_are_members : (with_value typed : Bool) (x : Element) → IsSound e → IsSound x
+  pub children_are_members : (with_value : Bool) (x : Element) → IsSound e → IsSound x
       → (is_value_element e && has_element (is_rdf (codes "value")) x) ≡ false → (has_attribute is_lang e && has_lang_value x) ≡ false
-      → IsFaultless (member_visits (property_visits levels) (holders.Value with_value typed) depth (elements_of x))
+      → IsFaultless (member_visits (property_visits levels) (holders.Value with_value) depth (elements_of x))
       → All (IsMember (24 - depth) with_value (lang_of e)) (element_members (value_within levels) x)
-  children_are_members with_value typed x sound_e sound held once h =
+  children_are_members with_value x sound_e sound held once h =
       All-map (IsMember (24 - depth) with_value (lang_of e)) (element_member (value_within levels)) (elements_of x) (λ k d lt.
       let c : Element = get_or (elements_of x) k d in
       let sound_c : IsSound c = sound_elements x sound k d lt in
       let else : IsHeldElse e c = λ is. not_value (list_any_at (λ c. is_rdf (codes "value") (name_of c)) (elements_of x) k d lt is) in
-      child_member depth reached with_value typed (value_within levels) (lang_of e) c
-      (one_child with_value typed c sound_c (near_member levels depth e c reached enough else)
-      (faultless_each (λ c. property_visits levels (roles.Property (holders.Value with_value typed)) (member_depth depth c) c) (elements_of x) h k d lt))
+      child_member depth reached with_value (value_within levels) (lang_of e) c
+      (one_child with_value c sound_c (near_member levels depth e c reached enough else)
+      (faultless_each (λ c. property_visits levels (roles.Property (holders.Value with_value)) (member_depth depth c) c) (elements_of x) h k d lt))
       (λ is. langs c sound_c (λ tagged. from_filter (λ c. is_rdf (codes "value") (name_of c)) (λ c. has_attribute is_lang c ≡ false) (elements_of x)
       (none_pass (has_attribute is_lang) (elements_named (is_rdf (codes "value")) x) tagged) k d lt is)))
     where

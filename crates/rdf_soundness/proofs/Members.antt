@@ -97,9 +97,9 @@ unfolding is_value_member
 value-element read c = ap (is_rdf (codes "value")) (name-member (name_of c) (read c))
 
 -- a child element that is a member of a value
-pub record IsChild (depth : ℕ) (with_value typed : Bool) (read : Element → Value) (c : Element) : Type 0 where
+pub record IsChild (depth : ℕ) (with_value : Bool) (read : Element → Value) (c : Element) : Type 0 where
   pub sound : IsSound c
-  pub unbroken : IsUnbroken (roles.Property (holders.Value with_value typed)) (member_depth depth c) c [] []
+  pub unbroken : IsUnbroken (roles.Property (holders.Value with_value)) (member_depth depth c) c [] []
   pub formed : Formed (member_depth depth c) c (read c)
 
 -- what the rules leave of the name of a member
@@ -107,20 +107,20 @@ abbrev NamedAs : Bool → Element → Type 0
 NamedAs with_value c =
     IsOutside (name_of c) ⊎ ((is_value_element c ≡ true) ⊎ ((is_rdf (codes "type") (name_of c) ≡ true) × (with_value ≡ true) × (is_type_element c ≡ true)))
 
-allowed_as : (with_value typed : Bool) (c : Element) → is_allowed_member (holders.Value with_value typed) c ≡ true
+allowed_as : (with_value : Bool) (c : Element) → is_allowed_member (holders.Value with_value) c ≡ true
     → (is_value_element c ≡ true) ⊎ ((is_rdf (codes "type") (name_of c) ≡ true) × (with_value ≡ true) × (is_type_element c ≡ true))
 unfolding is_allowed_member
-allowed_as with_value typed c h =
+allowed_as with_value c h =
     ⊎_elim inl
     (λ both. let parts = and_parts (is_rdf (codes "type") (name_of c) && with_value) (is_type_element c) both in
     let front = and_parts (is_rdf (codes "type") (name_of c)) with_value parts.0 in
     inr (front.0, front.1, parts.1))
     (or_cases (is_value_element c) (is_rdf (codes "type") (name_of c) && with_value && is_type_element c) h)
 
-module _ (with_value typed : Bool) (depth : ℕ) (c : Element) (first : List ℕ) (names : List Name)
-    (h : IsUnbroken (roles.Property (holders.Value with_value typed)) depth c first names) where
+module _ (with_value : Bool) (depth : ℕ) (c : Element) (first : List ℕ) (names : List Name)
+    (h : IsUnbroken (roles.Property (holders.Value with_value)) depth c first names) where
   abbrev role : Role
-  role = roles.Property (holders.Value with_value typed)
+  role = roles.Property (holders.Value with_value)
 
   spaced : in_none (name_of c) ≡ false
   unfolding no_namespace is_bare_element
@@ -134,15 +134,15 @@ module _ (with_value typed : Bool) (depth : ℕ) (c : Element) (first : List ℕ
   unfolding rdf_name
   named_as =
       ⊎_elim (λ none. inl (record { some = spaced; not_rdf = none; not_xml = not_xml }))
-      (λ denied. inr (allowed_as with_value typed c (not-false (is_allowed_member (holders.Value with_value typed) c) denied)))
-      (and_cases (in_rdf (name_of c)) (not (is_allowed_member (holders.Value with_value typed) c)) h.not_rdf)
+      (λ denied. inr (allowed_as with_value c (not-false (is_allowed_member (holders.Value with_value) c) denied)))
+      (and_cases (in_rdf (name_of c)) (not (is_allowed_member (holders.Value with_value) c)) h.not_rdf)
 
   pub child_roomy : IsRoomy depth c
   unfolding tree_deep
   child_roomy = roomy depth c h.shallow
 
-module _ (depth : ℕ) (reached : depth ≤ 24) (with_value typed : Bool) (read : Element → Value) (lang : List Member) (c : Element)
-    (h : IsChild depth with_value typed read c) where
+module _ (depth : ℕ) (reached : depth ≤ 24) (with_value : Bool) (read : Element → Value) (lang : List Member) (c : Element)
+    (h : IsChild depth with_value read c) where
   abbrev m : Member
   m = element_member read c
 
@@ -160,7 +160,7 @@ module _ (depth : ℕ) (reached : depth ≤ 24) (with_value typed : Bool) (read 
       omega (arith, shallow, depth-member (name_of c) (read c))
 
   child_other : is_value_element c ≡ false → IsOther with_value m
-  child_other off = by (named_as with_value typed (member_depth depth c) c [] [] h.unbroken)
+  child_other off = by (named_as with_value (member_depth depth c) c [] [] h.unbroken)
     where
       by : NamedAs with_value c → IsOther with_value m
       by (inl outside) = inl (subst (λ (n : Name). IsOwnSpace n.space) (sym same_name) (own_space (name_of c) h.sound.named outside))
@@ -173,7 +173,7 @@ module _ (depth : ℕ) (reached : depth ≤ 24) (with_value typed : Bool) (read 
   child_held is once =
       let at : member_depth depth c ≡ depth = cond-true (is_value_element c) depth (depth + 1) is in
       let shallow : value_depth (read c) ≤ 25 - depth = subst (λ (d : ℕ). value_depth (read c) ≤ 25 - d) at h.formed.shallow in
-      let room = subst (λ (d : ℕ). IsRoomy d c) at (child_roomy with_value typed (member_depth depth c) c [] [] h.unbroken) in
+      let room = subst (λ (d : ℕ). IsRoomy d c) at (child_roomy with_value (member_depth depth c) c [] [] h.unbroken) in
       let quals : (out-Value (tree.value_of m)).quals ≡ lang_of c = ap (λ v. (out-Value v).quals) same_value ∙ h.formed.bare is in
       record {
         shallow = subst (λ v. value_depth v ≤ 24 - depth + 1) (sym same_value) (omega (arith, shallow, reached));

@@ -55,7 +55,7 @@ module _ (levels : ℕ) (law : FormedAt levels) (depth : ℕ) (e : Element) (sou
       let held = (or_parts (nat_le 2 (length (elements_named (is_rdf (codes "value")) e))) (is_value_element e && with_value) inner).1 in
       let parts = or_parts (has_again (other_names (map name_of (elements_of e)))) (has_attribute is_lang e && has_lang_value e) once in
       let members : AreMembers (24 - depth) with_value (lang_of e) [] (element_members read e) = record {
-        each = children_are_members levels law depth e facts.room.reached enough with_value false e sound sound held parts.1 h;
+        each = children_are_members levels law depth e facts.room.reached enough with_value e sound sound held parts.1 h;
         valued = elements_valued read e;
         apart = elements_apart read e parts.0;
         type_once = inl refl;
@@ -74,7 +74,7 @@ module _ (levels : ℕ) (law : FormedAt levels) (depth : ℕ) (e : Element) (sou
       let visited = faultless_cons (visit roles.Node depth n) (member_visits (property_visits levels) (node_holder n) depth (elements_of n)) h in
       let node = node_facts depth n [] [] facts.room.reached visited.0 in
       let typings = typing (24 - depth) n sound_n node.typed in
-      let elements = children_are_members levels law depth e facts.room.reached enough with_value (is_typed n) n sound sound_n (not_held n inner) once visited.1 in
+      let elements = children_are_members levels law depth e facts.room.reached enough with_value n sound sound_n (not_held n inner) once visited.1 in
       let members = node_are_members depth (lang_of e) read n sound_n node elements in
       record {
         fit = members_fit (24 - depth) with_value (lang_of e) types (members_of_node read n) tag typings members;
