@@ -105,6 +105,7 @@ pub fn own_members<'p>(alloc: Global, element: &Element<'p>) -> Result<Members<'
     Ok(members)
 }
 
+/// Whether the attribute of a node is a member.
 fn is_node_member(attribute: &Attribute<'_>) -> bool
     ensures { result ≡ is_node_member attribute.now }
 {

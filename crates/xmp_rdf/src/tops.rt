@@ -112,6 +112,7 @@ fn with_children<'p>(
     Ok(placed)
 }
 
+/// The about, the names and the properties of a top, behind the tops before it.
 fn with_top<'e, 'p>(
     alloc: Global,
     levels: u64,
@@ -154,6 +155,7 @@ fn with_top_at<'e, 'p>(
     }
 }
 
+/// The tops among the children of `rdf:RDF`.
 fn tops_of<'e, 'p>(
     alloc: Global,
     levels: u64,

@@ -46,6 +46,7 @@ pub fn by_attributes<'p>(alloc: Global, element: &Element<'p>) -> Result<Value<'
     Ok(Value { shape, quals })
 }
 
+/// Whether the member is `rdf:value`.
 #[tactic(auto, unfolding(rdf_forms::specs::Values::is_value_member))]
 fn is_value_member(member: &Member<'_>) -> bool
     ensures { result ≡ is_value_member member.now }
@@ -69,6 +70,7 @@ fn other_members<'p>(members: Members<'p>) -> Members<'p>
     Sequence::from_vec(others)
 }
 
+/// The value of a member, moved.
 fn value_of<'p>(member: Member<'p>) -> Value<'p>
     ensures { result ≡ value_of member.entry }
 {

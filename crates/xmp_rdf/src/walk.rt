@@ -81,6 +81,7 @@ pub fn property<'p>(
     form_value(alloc, levels - 1, depth, element)
 }
 
+/// The value of a property or item, by its form.
 #[cycle(walk)]
 #[tactic(auto, unfolding(crate::specs::Reading::read_form))]
 fn form_value<'p>(
@@ -102,6 +103,7 @@ fn form_value<'p>(
     }
 }
 
+/// The value of one with `rdf:parseType="Resource"`, by the members that its child elements are.
 #[cycle(walk)]
 fn resource_value<'p>(
     alloc: Global,
@@ -120,6 +122,7 @@ fn resource_value<'p>(
     Ok(by_members(lang, Members::new(alloc), members)?)
 }
 
+/// The value by a node: by the members that its attributes and child elements are.
 #[cycle(walk)]
 fn node_value<'p>(
     alloc: Global,
@@ -141,6 +144,7 @@ fn node_value<'p>(
     Ok(by_members(lang, types, members)?)
 }
 
+/// The array of the items inside a container.
 #[cycle(walk)]
 fn container_value<'p>(
     alloc: Global,
@@ -180,6 +184,7 @@ fn members_of<'p>(
     Ok(members)
 }
 
+/// A child as a member, if it is an element, behind those before it.
 #[cycle(walk)]
 fn with_member<'p>(
     alloc: Global,
@@ -221,6 +226,7 @@ fn items_of<'p>(
     Ok(items)
 }
 
+/// A child as an item, if it is an element, behind those before it.
 #[cycle(walk)]
 fn with_item<'p>(
     alloc: Global,
