@@ -9,7 +9,7 @@ ghost use Rattle.rdf_forms.specs.Forms.{has_other_attribute};
 
 use crate::words::{is_bare_about, is_lang, is_own, is_rdf};
 use xml_grammar::{Child, Element};
-use xmp_values::{Text, is_blank};
+use xmp_values::{Text, is_blank_byte};
 
 /// The child as an element.
 pub fn as_element<'e, 'p>(child: &'e Child<'p>) -> Option<&'e Element<'p>>
@@ -86,12 +86,6 @@ pub fn has_own_attribute(element: &Element<'_>) -> bool
 {
     let attributes = element.attributes.as_slice();
     attributes.iter().any(|a| is_own(&a.name))
-}
-
-fn is_blank_byte(b: u8) -> bool
-    ensures { result ≡ characters.is_blank b }
-{
-    is_blank(char::from(b))
 }
 
 fn is_blank_text(text: &[u8]) -> bool
