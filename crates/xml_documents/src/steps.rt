@@ -1,8 +1,6 @@
 //! What each kind of token does.
 
 ghost use Rattle.std.specs.Prelude.{◌≡◌, ◌≤◌, ◌<◌, ◌+◌, ◌^◌, length, is_some, encode_utf8, IfOk};
-ghost use Rattle.std.specs.List.{prefix_len};
-ghost use Rattle.xmp_values.specs.Characters as characters;
 ghost use Rattle.xml_grammar.specs.Pieces.{Declaration};
 ghost use Rattle.xml_grammar.specs.Scopes.{same_prefix, same_qname};
 ghost use Rattle.xml_grammar.specs.Nesting.{is_foreign};
@@ -17,7 +15,7 @@ use crate::stops::XmlStop;
 use crate::tags::{Tagged, read_tag};
 use std::alloc::Global;
 use xml_grammar::{QName, Tag, Token};
-use xmp_values::{Memory, Rule, Text, is_blank};
+use xmp_values::{Memory, Rule, Text, leading_blanks};
 
 /// The greatest depth of an element.
 const DEEPEST: usize = 100;
@@ -168,20 +166,6 @@ fn start_step<'p>(
     tagged_step(alloc, builder, at, tagged)
 }
 
-fn is_blank_byte(b: u8) -> bool
-    ensures { result ≡ characters.is_blank b }
-{
-    is_blank(char::from(b))
-}
-
-/// How many blanks stand at the front.
-fn blank_run(bytes: &[u8]) -> usize
-    ensures run { result ≡ prefix_len characters.is_blank bytes.now }
-    ensures within { result ≤ length bytes.now }
-{
-    bytes.iter().take_while(|b| is_blank_byte(**b)).count()
-}
-
 /// Characters that stand for themselves.
 fn run_step<'p>(
     alloc: Global,
@@ -192,7 +176,7 @@ fn run_step<'p>(
     requires { at + length run.now < 2 ^ 64 }
     ensures { Gives result (run_step builder.entry at run.now) }
 {
-    let blank = blank_run(run);
+    let blank = leading_blanks(run);
     if builder.outer.is_empty() && blank != run.len() {
         return Err(XmlStop::Fault(Rule::OutsideRoot, at + blank as u64));
     }

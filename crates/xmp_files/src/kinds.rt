@@ -1,10 +1,8 @@
 //! Which kind a file is.
-ghost use Rattle.std.specs.Prelude.{◌≡◌, ◌≤◌, drop, length};
-ghost use Rattle.std.specs.List.{prefix_len};
-ghost use Rattle.xmp_values.specs.Characters as characters;
+ghost use Rattle.std.specs.Prelude.{◌≡◌, drop};
 ghost use Rattle.xmp_files.specs.Kinds.{kind_of, kind_of_head, is_tiff, is_big_tiff, is_webp, is_psd, is_sidecar, is_utf16, is_markup, without_mark};
 
-use xmp_values::is_blank;
+use xmp_values::leading_blanks;
 
 /// The kinds of files, by their first bytes.
 #[derive(Clone, Copy, Debug, PartialEq, Eq)]
@@ -109,20 +107,6 @@ fn without_mark(head: &[u8]) -> &[u8]
     } else {
         head
     }
-}
-
-fn is_blank_byte(byte: u8) -> bool
-    ensures { result ≡ characters.is_blank byte }
-{
-    is_blank(char::from(byte))
-}
-
-/// How many bytes of white space stand at the beginning.
-fn leading_blanks(text: &[u8]) -> usize
-    ensures count { result ≡ prefix_len characters.is_blank text.now }
-    ensures within { result ≤ length text.now }
-{
-    text.iter().take_while(|byte| is_blank_byte(**byte)).count()
 }
 
 /// Whether `<` stands behind any white space.

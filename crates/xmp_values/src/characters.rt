@@ -1,6 +1,6 @@
 //! The characters of XML 1.0 (fifth edition), productions 2 to 4a, the names without the colon.
-ghost use Rattle.std.specs.Prelude.{◌≡◌, ◌↔◌, IsTrue, chars};
-ghost use Rattle.std.specs.List.{list_all};
+ghost use Rattle.std.specs.Prelude.{◌≡◌, ◌≤◌, ◌↔◌, IsTrue, length, chars};
+ghost use Rattle.std.specs.List.{list_all, prefix_len};
 ghost use Rattle.xmp_values.specs.Characters.{is_char, is_blank, is_name_start, is_name_char, is_name_of, IsCharText, IsName};
 
 use std::str::from_utf8;
@@ -33,6 +33,14 @@ pub fn is_blank_byte(byte: u8) -> bool
     ensures { result ≡ is_blank byte }
 {
     is_blank(char::from(byte))
+}
+
+/// How many bytes of white space stand at the front.
+pub fn leading_blanks(text: &[u8]) -> usize
+    ensures count { result ≡ prefix_len is_blank text.now }
+    ensures within { result ≤ length text.now }
+{
+    text.iter().take_while(|byte| is_blank_byte(**byte)).count()
 }
 
 /// NameStartChar without the colon, production 4.

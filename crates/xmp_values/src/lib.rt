@@ -21,6 +21,7 @@ mod words;
 
 pub use characters::{
     is_blank, is_blank_byte, is_char, is_char_text, is_name, is_name_char, is_name_start,
+    leading_blanks,
 };
 pub use digits::{Digits, is_hex_digit};
 pub use faults::{Fault, Part, Place};
