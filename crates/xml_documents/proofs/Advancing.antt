@@ -1,6 +1,6 @@
 -- From one token to the next, as the reader's loop goes.
 use Rattle.std.proofs.Common.{◌≡◌, ◌≢◌, ℕ, ◌+◌, ◌-◌, ◌≤◌, Bool, true, false, cond, eqb, List, [], ◌∷◌, ◌++◌, length, take, map, Result, Ok, Err, refl, sym, ap, subst, ◌∙◌, length-append, inl, inr, arith}
-use Rattle.std.specs.Prelude.{chars, encode_utf8, encode_utf8_all, IfOk, IfErr}
+use Rattle.std.specs.Prelude.{chars, encode_utf8, encode_utf8_all, IfOk, OnOk, IfErr}
 use Rattle.std.specs.Str.{IsUtf8, IsCharBoundary}
 use Rattle.std.proofs.lemmas.Str.{IsCharBoundary-at_seam, chars-nil, chars-append, encodes-chars}
 use Rattle.std.proofs.lemmas.List.{append_cancel_right}
@@ -98,6 +98,14 @@ module _ (s : Builder) (at : ℕ) (mode : Mode) (token : Token) (text run rest :
   pub halted : (stop : XmlStop) → answering.Fails stop (step_of s at (with_run token run)) → Stops s at (chars text) stop
   halted stops.Memory f = tt
   halted (stops.Fault r place) f = inr (with_run token run, chars rest, takes_token s mode token text run rest m u e h some, sym (step_is s at (with_run token run)) ∙ f)
+
+  pub made : {X : Type 0} (result : Result X XmlStop) (next : Builder) → answering.Makes result next (step_of s at (with_run token run)) → OnOk result (Advances s at (chars text) next (chars rest))
+  made (Ok x) next is = advanced next is
+  made (Err stop) next f = tt
+
+  pub stopped : {X : Type 0} (result : Result X XmlStop) (next : Builder) → answering.Makes result next (step_of s at (with_run token run)) → IfErr result (Stops s at (chars text))
+  stopped (Ok x) next is = tt
+  stopped (Err stop) next f = halted stop f
 
 pub no_token : (s : Builder) (at : ℕ) (mode : Mode) (cs : List ℕ) (stop : TokenStop) → mode ≡ mode_by (is_nil s.outer) s.first → cs ≢ [] → Fails mode cs stop → Stops s at cs (stop_at stop at)
 no_token s at mode cs token_stops.Memory m some f = tt

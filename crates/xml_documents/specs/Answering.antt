@@ -12,3 +12,8 @@ Fails (stops.Fault r at) read = read ≡ Err (r, at)
 abbrev pub Gives : {Y : Type 0} → Result Y XmlStop → Result Y Fault → Type 0
 Gives (Ok x) read = read ≡ Ok x
 Gives (Err e) read = Fails e read
+
+-- the same of a function that changes something in its place, into `next`
+abbrev pub Makes : {X Y : Type 0} → Result X XmlStop → Y → Result Y Fault → Type 0
+Makes (Ok x) next read = read ≡ Ok next
+Makes (Err e) next read = Fails e read

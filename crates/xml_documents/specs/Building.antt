@@ -85,6 +85,14 @@ opened_in s at tag inside = with_frame s (frame at tag inside) inside (filter_ma
 abbrev pub opened : Builder → ℕ → Tag → Builder
 opened s at tag = opened_in s at tag (bindings_of tag.attributes ++ bound_of s.outer s.scope)
 
+-- the innermost element is the root, and the document's frame is left
+abbrev pub rooted : Builder → Frame → Builder
+rooted s document = record { first = s.first; outer = s.outer; top = document; text = s.text; root = Some (element s.top); hints = s.hints; scope = s.scope }
+
+-- the innermost element is a child of its parent, behind which its declarations are no more in force
+abbrev pub nested : Builder → Frame → Builder
+nested s parent = record { first = s.first; outer = s.outer; top = with_child parent (child.Element (element s.top)); text = s.text; root = s.root; hints = s.hints; scope = drop s.top.declared s.scope }
+
 abbrev pub popped : List Frame → Frame → Option Element → List Hint → List Binding → Builder
 popped [] top root hints scope = record { first = false; outer = []; top = top; text = []; root = root; hints = hints; scope = scope }
 popped (document ∷ []) top root hints scope = record { first = false; outer = []; top = document; text = []; root = Some (element top); hints = hints; scope = scope }

@@ -1,13 +1,13 @@
 //! The element tree, as far as it is read.
 
-ghost use Rattle.std.specs.Prelude.{◌≡◌, IfOk};
-ghost use Rattle.xml_grammar.specs.declared.elements.Child.TheVariants as child;
-ghost use Rattle.xml_documents.specs.Building.{start, document, bound_of, element, with_child, flushed, passed, with_text, unscoped, with_frame, popped, closed, closed_if};
+ghost use Rattle.std.specs.Prelude.{◌≡◌, IfOk, OnOk};
+ghost use Rattle.xml_documents.specs.Building.{start, document, bound_of, element, flushed, passed, with_text, unscoped, with_frame, rooted, nested, closed, closed_if};
 
 use crate::pending::Pending;
 use crate::scopes::Scope;
 use crate::stack::Stack;
 use std::alloc::Global;
+use std::mem::replace;
 use xml_grammar::{Attributes, Child, Children, Element, QName};
 use xmp_values::{Hint, Memory, Name, Sequence, Text};
 
@@ -74,150 +74,64 @@ pub fn new_builder<'p>(alloc: Global) -> Builder<'p>
 }
 
 /// The text that is read becomes a child.
-fn flush<'p>(builder: Builder<'p>) -> Result<Builder<'p>, Memory>
-    ensures { IfOk result (λ b. b ≡ flushed builder.entry) }
+fn flush(builder: &mut Builder<'_>) -> Result<(), Memory>
+    ensures { OnOk result (builder.new ≡ flushed builder.old) }
 {
-    let Builder {
-        first,
-        outer,
-        mut top,
-        text,
-        root,
-        hints,
-        scope,
-    } = builder;
+    let text = replace(&mut builder.text, Pending::new());
     if !text.is_empty() {
-        top.children.push(Child::Text(text.into_text()))?;
+        builder.top.children.push(Child::Text(text.into_text()))?;
     }
-    Ok(Builder {
-        first,
-        outer,
-        top,
-        text: Pending::new(),
-        root,
-        hints,
-        scope,
-    })
+    Ok(())
 }
 
 /// A piece without meaning is read.
-pub fn pass<'p>(builder: Builder<'p>) -> Builder<'p>
-    ensures { result ≡ passed builder.entry }
+pub fn pass(builder: &mut Builder<'_>)
+    ensures { builder.new ≡ passed builder.old }
 {
-    let Builder {
-        first: _,
-        outer,
-        top,
-        text,
-        root,
-        hints,
-        scope,
-    } = builder;
-    Builder {
-        first: false,
-        outer,
-        top,
-        text,
-        root,
-        hints,
-        scope,
-    }
+    builder.first = false;
 }
 
 /// Text is read.
-pub fn add_text<'p>(
-    alloc: Global,
-    builder: Builder<'p>,
-    more: Text<'p>,
-) -> Result<Builder<'p>, Memory>
-    ensures { IfOk result (λ b. b ≡ with_text builder.entry more.entry) }
+pub fn add_text<'p>(alloc: Global, builder: &mut Builder<'p>, more: Text<'p>) -> Result<(), Memory>
+    ensures { OnOk result (builder.new ≡ with_text builder.old more.entry) }
 {
+    builder.first = false;
     if builder.outer.is_empty() {
-        return Ok(pass(builder));
+        return Ok(());
     }
-    let Builder {
-        first: _,
-        outer,
-        top,
-        text,
-        root,
-        hints,
-        scope,
-    } = builder;
-    Ok(Builder {
-        first: false,
-        outer,
-        top,
-        text: text.with(alloc, more)?,
-        root,
-        hints,
-        scope,
-    })
+    let text = replace(&mut builder.text, Pending::new());
+    builder.text = text.with(alloc, more)?;
+    Ok(())
 }
 
-/// The builder without its scope, and the declarations in force for a tag.
-pub fn split_scope<'p>(
-    alloc: Global,
-    builder: Builder<'p>,
-) -> Result<(Builder<'p>, Scope<'p>), Memory>
-    ensures builder { IfOk result (λ x. x.0 ≡ unscoped builder.entry) }
-    ensures scope { IfOk result (λ x. x.1 ≡ bound_of builder.entry.outer builder.entry.scope) }
+/// Takes out the declarations in force for a tag.
+pub fn take_scope<'p>(alloc: Global, builder: &mut Builder<'p>) -> Result<Scope<'p>, Memory>
+    ensures builder { OnOk result (builder.new ≡ unscoped builder.old) }
+    ensures scope { IfOk result (λ s. s ≡ bound_of builder.old.outer builder.old.scope) }
 {
-    let Builder {
-        first,
-        outer,
-        top,
-        text,
-        root,
-        hints,
-        scope,
-    } = builder;
-    let around = if outer.is_empty() {
-        Scope::predeclared(alloc)?
-    } else {
-        scope
-    };
-    let rest = Builder {
-        first,
-        outer,
-        top,
-        text,
-        root,
-        hints,
-        scope: Scope::new(alloc),
-    };
-    Ok((rest, around))
+    let scope = replace(&mut builder.scope, Scope::new(alloc));
+    if builder.outer.is_empty() {
+        return Scope::predeclared(alloc);
+    }
+    Ok(scope)
 }
 
 /// An element begins, with the declarations in force inside it.
 pub fn begin<'p>(
-    builder: Builder<'p>,
+    builder: &mut Builder<'p>,
     frame: Frame<'p>,
     inside: Scope<'p>,
     declared: Sequence<Hint>,
-) -> Result<Builder<'p>, Memory>
-    ensures { IfOk result (λ b. b ≡ with_frame builder.entry frame.entry inside.entry declared) }
+) -> Result<(), Memory>
+    ensures { OnOk result (builder.new ≡ with_frame builder.old frame.entry inside.entry declared) }
 {
-    let Builder {
-        first: _,
-        mut outer,
-        top,
-        text,
-        root,
-        mut hints,
-        scope: _,
-    } = flush(builder)?;
-    outer.push(top)?;
-    hints.append(declared)?;
-    Ok(Builder {
-        first: false,
-        outer,
-        top: frame,
-        text,
-        root,
-        hints,
-        scope: inside,
-    })
+    flush(builder)?;
+    let around = replace(&mut builder.top, frame);
+    builder.outer.push(around)?;
+    builder.hints.append(declared)?;
+    let _around = replace(&mut builder.scope, inside);
+    builder.first = false;
+    Ok(())
 }
 
 fn element_of<'p>(frame: Frame<'p>) -> Element<'p>
@@ -239,84 +153,48 @@ fn element_of<'p>(frame: Frame<'p>) -> Element<'p>
     }
 }
 
-/// An element with one more inside it.
-fn with_element<'p>(parent: Frame<'p>, element: Element<'p>) -> Result<Frame<'p>, Memory>
-    ensures { IfOk result (λ f. f ≡ with_child parent.entry (child.Element element.entry)) }
+/// The innermost element is the root.
+fn end_root<'p>(builder: &mut Builder<'p>, document: Frame<'p>)
+    ensures { builder.new ≡ rooted builder.old document.entry }
 {
-    let mut more = parent;
-    more.children.push(Child::Element(element))?;
-    Ok(more)
+    let root = replace(&mut builder.top, document);
+    builder.root = Some(element_of(root));
 }
 
-/// The innermost element is a child of the next, or the root.
-fn popped<'p>(
-    alloc: Global,
-    outer: Stack<Frame<'p>>,
-    top: Frame<'p>,
-    root: Option<Element<'p>>,
-    hints: Sequence<Hint>,
-    scope: Scope<'p>,
-) -> Result<Builder<'p>, Memory>
-    ensures { IfOk result (λ b. b ≡ popped outer.entry top.entry root.entry hints scope.entry) }
+/// The innermost element is a child of the next.
+fn end_child<'p>(alloc: Global, builder: &mut Builder<'p>, parent: Frame<'p>) -> Result<(), Memory>
+    ensures { OnOk result (builder.new ≡ nested builder.old parent.entry) }
 {
-    let mut rest = outer;
-    match rest.pop() {
-        None => Ok(Builder {
-            first: false,
-            outer: rest,
-            top,
-            text: Pending::new(),
-            root,
-            hints,
-            scope,
-        }),
-        Some(document) if rest.is_empty() => Ok(Builder {
-            first: false,
-            outer: rest,
-            top: document,
-            text: Pending::new(),
-            root: Some(element_of(top)),
-            hints,
-            scope,
-        }),
-        Some(parent) => {
-            let around = scope.left(alloc, top.declared)?;
-            Ok(Builder {
-                first: false,
-                outer: rest,
-                top: with_element(parent, element_of(top))?,
-                text: Pending::new(),
-                root,
-                hints,
-                scope: around,
-            })
-        }
-    }
+    let child = replace(&mut builder.top, parent);
+    let scope = replace(&mut builder.scope, Scope::new(alloc));
+    let around = scope.left(alloc, child.declared)?;
+    let _none = replace(&mut builder.scope, around);
+    builder
+        .top
+        .children
+        .push(Child::Element(element_of(child)))?;
+    Ok(())
 }
 
 /// The innermost element ends.
-pub fn end<'p>(alloc: Global, builder: Builder<'p>) -> Result<Builder<'p>, Memory>
-    ensures { IfOk result (λ b. b ≡ closed builder.entry) }
+pub fn end(alloc: Global, builder: &mut Builder<'_>) -> Result<(), Memory>
+    ensures { OnOk result (builder.new ≡ closed builder.old) }
 {
-    let Builder {
-        first: _,
-        outer,
-        top,
-        text: _,
-        root,
-        hints,
-        scope,
-    } = flush(builder)?;
-    popped(alloc, outer, top, root, hints, scope)
+    flush(builder)?;
+    builder.first = false;
+    match builder.outer.pop() {
+        None => Ok(()),
+        Some(document) if builder.outer.is_empty() => {
+            end_root(builder, document);
+            Ok(())
+        }
+        Some(parent) => end_child(alloc, builder, parent),
+    }
 }
 
 /// An empty element ends where it begins.
-pub fn end_if<'p>(alloc: Global, empty: bool, builder: Builder<'p>) -> Result<Builder<'p>, Memory>
-    ensures { IfOk result (λ b. b ≡ closed_if empty builder.entry) }
+pub fn end_if(alloc: Global, empty: bool, builder: &mut Builder<'_>) -> Result<(), Memory>
+    ensures { OnOk result (builder.new ≡ closed_if empty builder.old) }
 {
-    if empty {
-        end(alloc, builder)
-    } else {
-        Ok(builder)
-    }
+    if empty { end(alloc, builder) } else { Ok(()) }
 }

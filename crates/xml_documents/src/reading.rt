@@ -1,6 +1,6 @@
 //! A document from left to right.
 
-ghost use Rattle.std.specs.Prelude.{◌≡◌, ◌≢◌, ◌+◌, ◌<◌, ◌≤◌, ◌^◌, ◌++◌, [], ℕ, List, length, IfOk, IfErr, IsUtf8};
+ghost use Rattle.std.specs.Prelude.{◌≡◌, ◌≢◌, ◌+◌, ◌<◌, ◌≤◌, ◌^◌, ◌++◌, [], ℕ, List, length, IfOk, IfErr, OnOk, IsUtf8};
 ghost use Rattle.std.specs.Str.{chars};
 ghost use Rattle.xmp_values.specs.declared.hints.Hint.{Hint};
 ghost use Rattle.xmp_values.specs.declared.rules.Rule.{Rule};
@@ -59,47 +59,45 @@ fn stop_at(stop: TokenStop, at: u64) -> XmlStop
 /// Past a token that stands at the front of what is left.
 fn advance_by<'p>(
     alloc: Global,
-    builder: Builder<'p>,
+    builder: &mut Builder<'p>,
     at: u64,
     mode: Mode,
     token: Token<'p>,
     rest: &'p str,
     behind: &'p str,
-) -> Result<(Builder<'p>, &'p str), XmlStop>
+) -> Result<(), XmlStop>
     requires fits { at + length rest.now < 2 ^ 64 }
-    requires mode { mode ≡ mode_by (is_nil builder.outer) builder.first }
+    requires mode { mode ≡ mode_by (is_nil builder.old.outer) builder.old.first }
     requires stands { StandsRow mode (pieces_of token) (chars rest.now) (chars behind.now) }
     requires some { pieces_of token ≢ [] }
     requires behind { IsBehind rest.now behind.now }
-    ensures further { IfOk result (λ x. Advances builder.entry at (chars rest.now) x.0 (chars x.1.now)) }
-    ensures shorter { IfOk result (λ x. length x.1.now < length rest.now) }
-    ensures utf8 { IfOk result (λ x. IsUtf8 x.1.now) }
-    ensures stops { IfErr result (Stops builder.entry at (chars rest.now)) }
+    ensures further { OnOk result (Advances builder.old at (chars rest.now) builder.new (chars behind.now)) }
+    ensures stops { IfErr result (Stops builder.old at (chars rest.now)) }
 {
     let run = front(rest, behind);
-    match token_step(alloc, builder, at, token, run.as_bytes()) {
-        Ok(next) => Ok((next, behind)),
-        Err(stop) => Err(stop),
-    }
+    token_step(alloc, builder, at, token, run.as_bytes())
 }
 
 /// One token further.
 fn advance<'p>(
     alloc: Global,
-    builder: Builder<'p>,
+    builder: &mut Builder<'p>,
     at: u64,
     rest: &'p str,
-) -> Result<(Builder<'p>, &'p str), XmlStop>
+) -> Result<&'p str, XmlStop>
     requires fits { at + length rest.now < 2 ^ 64 }
     requires some { rest.now ≢ [] }
-    ensures further { IfOk result (λ x. Advances builder.entry at (chars rest.now) x.0 (chars x.1.now)) }
-    ensures shorter { IfOk result (λ x. length x.1.now < length rest.now) }
-    ensures utf8 { IfOk result (λ x. IsUtf8 x.1.now) }
-    ensures stops { IfErr result (Stops builder.entry at (chars rest.now)) }
+    ensures further { IfOk result (λ behind. Advances builder.old at (chars rest.now) builder.new (chars behind.now)) }
+    ensures shorter { IfOk result (λ behind. length behind.now < length rest.now) }
+    ensures utf8 { IfOk result (λ behind. IsUtf8 behind.now) }
+    ensures stops { IfErr result (Stops builder.old at (chars rest.now)) }
 {
-    let mode = mode_of(&builder);
+    let mode = mode_of(builder);
     match token_of(alloc, mode, rest) {
-        Ok((token, behind)) => advance_by(alloc, builder, at, mode, token, rest, behind),
+        Ok((token, behind)) => {
+            advance_by(alloc, builder, at, mode, token, rest, behind)?;
+            Ok(behind)
+        }
         Err(stop) => Err(stop_at(stop, at)),
     }
 }
@@ -145,9 +143,7 @@ fn read_text<'p>(alloc: Global, text: &'p str) -> Result<(Element<'p>, Sequence<
             return finish(alloc, builder, text.len() as u64);
         }
         let at = (text.len() - rest.len()) as u64;
-        let (next, behind) = advance(alloc, builder, at, rest)?;
-        builder = next;
-        rest = behind;
+        rest = advance(alloc, &mut builder, at, rest)?;
     }
     finish(alloc, builder, text.len() as u64)
 }

@@ -1,15 +1,15 @@
 //! What each kind of token does.
 
-ghost use Rattle.std.specs.Prelude.{◌≡◌, ◌≤◌, ◌<◌, ◌+◌, ◌^◌, length, is_some, encode_utf8, IfOk};
+ghost use Rattle.std.specs.Prelude.{◌≡◌, ◌≤◌, ◌<◌, ◌+◌, ◌^◌, length, is_some, encode_utf8, OnOk};
 ghost use Rattle.xml_grammar.specs.Pieces.{Declaration};
 ghost use Rattle.xml_grammar.specs.Scopes.{same_prefix, same_qname};
 ghost use Rattle.xml_grammar.specs.Nesting.{is_foreign};
-ghost use Rattle.xml_documents.specs.Answering.{Gives};
+ghost use Rattle.xml_documents.specs.Answering.{Makes};
 ghost use Rattle.xml_documents.specs.Building.{is_nil};
 ghost use Rattle.xml_documents.specs.Document.{run_step};
 ghost use Rattle.xml_documents.specs.Steps.{declaration_step, text_step, end_step, tag_rule, begun, tagged_step, start_step, step_of, with_run};
 
-use crate::builder::{Builder, add_text, begin, end, end_if, pass, split_scope};
+use crate::builder::{Builder, add_text, begin, end, end_if, pass, take_scope};
 use crate::pending::char_text;
 use crate::stops::XmlStop;
 use crate::tags::{Tagged, read_tag};
@@ -31,26 +31,27 @@ fn is_foreign(encoding: &Option<Text<'_>>) -> bool
 }
 
 fn declaration_step<'p>(
-    builder: Builder<'p>,
+    builder: &mut Builder<'p>,
     at: u64,
     encoding: &Option<Text<'p>>,
-) -> Result<Builder<'p>, XmlStop>
-    ensures { Gives result (declaration_step builder.entry at encoding.now) }
+) -> Result<(), XmlStop>
+    ensures { Makes result builder.new (declaration_step builder.old at encoding.now) }
 {
     if is_foreign(encoding) {
         return Err(XmlStop::Fault(Rule::Encoding, at));
     }
-    Ok(pass(builder))
+    pass(builder);
+    Ok(())
 }
 
 /// Text that may not stand outside the root.
 fn text_step<'p>(
     alloc: Global,
-    builder: Builder<'p>,
+    builder: &mut Builder<'p>,
     at: u64,
     text: Text<'p>,
-) -> Result<Builder<'p>, XmlStop>
-    ensures { Gives result (text_step builder.entry at text.entry) }
+) -> Result<(), XmlStop>
+    ensures { Makes result builder.new (text_step builder.old at text.entry) }
 {
     if builder.outer.is_empty() {
         return Err(XmlStop::Fault(Rule::OutsideRoot, at));
@@ -60,11 +61,11 @@ fn text_step<'p>(
 
 fn reference_step<'p>(
     alloc: Global,
-    builder: Builder<'p>,
+    builder: &mut Builder<'p>,
     at: u64,
     c: char,
-) -> Result<Builder<'p>, XmlStop>
-    ensures { Gives result (text_step builder.entry at (encode_utf8 c)) }
+) -> Result<(), XmlStop>
+    ensures { Makes result builder.new (text_step builder.old at (encode_utf8 c)) }
 {
     let text = char_text(alloc, c)?;
     text_step(alloc, builder, at, text)
@@ -89,11 +90,11 @@ fn same_qname(one: &QName<'_>, other: &QName<'_>) -> bool
 
 fn end_step<'p>(
     alloc: Global,
-    builder: Builder<'p>,
+    builder: &mut Builder<'p>,
     at: u64,
     name: &QName<'p>,
-) -> Result<Builder<'p>, XmlStop>
-    ensures { Gives result (end_step builder.entry at name.now) }
+) -> Result<(), XmlStop>
+    ensures { Makes result builder.new (end_step builder.old at name.now) }
 {
     if builder.outer.is_empty() {
         return Err(XmlStop::Fault(Rule::OutsideRoot, at));
@@ -123,8 +124,8 @@ fn tag_rule(builder: &Builder<'_>, tagged: &Tagged<'_>) -> Option<Rule>
     }
 }
 
-fn begun<'p>(alloc: Global, builder: Builder<'p>, tagged: Tagged<'p>) -> Result<Builder<'p>, Memory>
-    ensures { IfOk result (λ b. b ≡ begun builder.entry tagged.entry) }
+fn begun<'p>(alloc: Global, builder: &mut Builder<'p>, tagged: Tagged<'p>) -> Result<(), Memory>
+    ensures { OnOk result (builder.new ≡ begun builder.old tagged.entry) }
 {
     let Tagged {
         frame,
@@ -135,19 +136,19 @@ fn begun<'p>(alloc: Global, builder: Builder<'p>, tagged: Tagged<'p>) -> Result<
         twice: _,
         empty,
     } = tagged;
-    let opened = begin(builder, frame, scope, hints)?;
-    end_if(alloc, empty, opened)
+    begin(builder, frame, scope, hints)?;
+    end_if(alloc, empty, builder)
 }
 
 fn tagged_step<'p>(
     alloc: Global,
-    builder: Builder<'p>,
+    builder: &mut Builder<'p>,
     at: u64,
     tagged: Tagged<'p>,
-) -> Result<Builder<'p>, XmlStop>
-    ensures { Gives result (tagged_step builder.entry at tagged.entry) }
+) -> Result<(), XmlStop>
+    ensures { Makes result builder.new (tagged_step builder.old at tagged.entry) }
 {
-    if let Some(rule) = tag_rule(&builder, &tagged) {
+    if let Some(rule) = tag_rule(builder, &tagged) {
         return Err(XmlStop::Fault(rule, at));
     }
     Ok(begun(alloc, builder, tagged)?)
@@ -155,13 +156,13 @@ fn tagged_step<'p>(
 
 fn start_step<'p>(
     alloc: Global,
-    builder: Builder<'p>,
+    builder: &mut Builder<'p>,
     at: u64,
     tag: Tag<'p>,
-) -> Result<Builder<'p>, XmlStop>
-    ensures { Gives result (start_step builder.entry at tag.entry) }
+) -> Result<(), XmlStop>
+    ensures { Makes result builder.new (start_step builder.old at tag.entry) }
 {
-    let (builder, scope) = split_scope(alloc, builder)?;
+    let scope = take_scope(alloc, builder)?;
     let tagged = read_tag(alloc, scope, at, tag)?;
     tagged_step(alloc, builder, at, tagged)
 }
@@ -169,12 +170,12 @@ fn start_step<'p>(
 /// Characters that stand for themselves.
 fn run_step<'p>(
     alloc: Global,
-    builder: Builder<'p>,
+    builder: &mut Builder<'p>,
     at: u64,
     run: &'p [u8],
-) -> Result<Builder<'p>, XmlStop>
+) -> Result<(), XmlStop>
     requires { at + length run.now < 2 ^ 64 }
-    ensures { Gives result (run_step builder.entry at run.now) }
+    ensures { Makes result builder.new (run_step builder.old at run.now) }
 {
     let blank = leading_blanks(run);
     if builder.outer.is_empty() && blank != run.len() {
@@ -186,18 +187,20 @@ fn run_step<'p>(
 /// One token further. The bytes are those on which the token stands.
 pub fn token_step<'p>(
     alloc: Global,
-    builder: Builder<'p>,
+    builder: &mut Builder<'p>,
     at: u64,
     token: Token<'p>,
     bytes: &'p [u8],
-) -> Result<Builder<'p>, XmlStop>
+) -> Result<(), XmlStop>
     requires { at + length bytes.now < 2 ^ 64 }
-    ensures { Gives result (step_of builder.entry at (with_run token.entry bytes.now)) }
+    ensures { Makes result builder.new (step_of builder.old at (with_run token.entry bytes.now)) }
 {
     match token {
         Token::Declaration(encoding) => declaration_step(builder, at, &encoding),
-        Token::Instruction => Ok(pass(builder)),
-        Token::Comment => Ok(pass(builder)),
+        Token::Instruction | Token::Comment => {
+            pass(builder);
+            Ok(())
+        }
         Token::Cdata(text) => text_step(alloc, builder, at, text),
         Token::Start(tag) => start_step(alloc, builder, at, tag),
         Token::End(name) => end_step(alloc, builder, at, &name),

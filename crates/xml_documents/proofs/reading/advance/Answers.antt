@@ -4,7 +4,7 @@ use Rattle.xml_documents.specs.Reading.{Stops}
 use Rattle.xml_documents.proofs.Advancing.{no_token, some_chars}
 use Rattle.xml_documents.proofs.reading.advance.Goals as goal
 
-pub returns-clause-stops : goal.returns-clause-stops
-returns-clause-stops c =
-    subst (Stops c.args.builder c.args.at (chars c.args.rest.now)) (sym c.stop_at.ensures)
-    (no_token c.args.builder c.args.at c.mode_of-mode.result (chars c.args.rest.now) c.in-Err.stop c.mode_of-mode.ensures (some_chars c.args.rest.now c.utf8.rest c.requires.some) c.in-Err.ensures.fault)
+pub returns-in-Err-clause-stops : goal.returns-in-Err-clause-stops
+returns-in-Err-clause-stops c =
+    subst (Stops c.args.builder.now c.args.at (chars c.args.rest.now)) (sym c.stop_at.ensures)
+    (no_token c.args.builder.now c.args.at c.mode_of-mode.result (chars c.args.rest.now) c.in-Err.stop c.mode_of-mode.ensures (some_chars c.args.rest.now c.utf8.rest c.requires.some) c.in-Err.ensures.fault)

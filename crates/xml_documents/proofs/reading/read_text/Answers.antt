@@ -29,16 +29,16 @@ returns-then-is_empty-clause-stop c =
     let none : c.loop.rest.now ≡ [] = nil_from_length c.loop.rest.now (eqb-true _ 0 (sym c.is_empty.ensures ∙ c.if-is_empty.true)) in
     (ended c.args.text.now c.loop.rest.now c.loop.builder c.finish.result none c.utf8.text c.loop.invariant.reached c.finish.ensures).1
 
-pub returns-in_err-next-clause-stop : goal.returns-in_err-next-clause-stop
-returns-in_err-next-clause-stop c =
+pub returns-in_err-rest-clause-stop : goal.returns-in_err-rest-clause-stop
+returns-in_err-rest-clause-stop c =
     let p = err_from_is_err_and c.from_residual.result c.from_residual.ensures.1 in
-    rw (p.1, p.2) (stop_reached c.args.text.now c.loop.rest.now c.loop.builder (length c.args.text.now - length c.loop.rest.now) c.in_err-next.field-0.0 refl c.utf8.text c.loop.invariant.text c.loop.invariant.reached c.in_err-next.ensures.stops)
+    rw (p.1, p.2) (stop_reached c.args.text.now c.loop.rest.now c.loop.builder (length c.args.text.now - length c.loop.rest.now) c.in_err-rest.field-0.0 refl c.utf8.text c.loop.invariant.text c.loop.invariant.reached c.in_err-rest.ensures.stops)
 
 pub loop-preserved : goal.loop-preserved
 loop-preserved c = record {
-  text = c.in_ok-next.ensures.utf8;
-  reached = advance_reached c.args.text.now c.loop.rest.now c.in_ok-next.behind.now c.loop.builder c.in_ok-next.next (length c.args.text.now - length c.loop.rest.now) refl c.utf8.text c.loop.invariant.text c.loop.invariant.reached c.in_ok-next.ensures.further;
-  fuel = omega (arith, c.in_ok-next.ensures.shorter, c.loop.invariant.fuel);
+  text = c.in_ok-rest.ensures.utf8;
+  reached = advance_reached c.args.text.now c.loop.rest.now c.in_ok-rest.rest.now c.loop.builder c.advance.new.builder (length c.args.text.now - length c.loop.rest.now) refl c.utf8.text c.loop.invariant.text c.loop.invariant.reached c.in_ok-rest.ensures.further;
+  fuel = omega (arith, c.in_ok-rest.ensures.shorter, c.loop.invariant.fuel);
 }
 
 pub returns-clause-document : goal.returns-clause-document

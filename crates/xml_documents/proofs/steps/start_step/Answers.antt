@@ -4,7 +4,7 @@ use Rattle.xmp_values.specs.declared.rules.Rule.{Rule}
 use Rattle.xml_grammar.specs.Scopes.{Binding, bindings_of}
 use Rattle.xml_documents.specs.declared.builder.Builder.{Builder}
 use Rattle.xml_documents.specs.declared.tags.Tagged.{Tagged}
-use Rattle.xml_documents.specs.Answering.{Gives}
+use Rattle.xml_documents.specs.Answering.{Makes}
 use Rattle.xml_documents.specs.Building.{is_nil, unscoped}
 use Rattle.xml_documents.specs.Document.{Fault}
 use Rattle.xml_documents.specs.Tagging.{tagged, tagged_with}
@@ -21,9 +21,9 @@ unscoped_step s at t = by (tag_rule (is_nil s.outer) (is_some s.root) (length s.
 
 pub returns : goal.returns
 returns c =
-    let s = c.args.builder in
+    let s = c.args.builder.now in
     let read : c.in_ok-tagged.tagged ≡ tagged s c.args.at c.args.tag =
-    c.in_ok-tagged.ensures ∙ ap (λ (bs : List Binding). tagged_with (bindings_of c.args.tag.attributes ++ bs) c.args.at c.args.tag) c.in_ok-builder.ensures.scope in
-    let same : tagged_step c.in_ok-builder.builder c.args.at c.in_ok-tagged.tagged ≡ start_step s c.args.at c.args.tag =
-    (λ i. tagged_step (c.in_ok-builder.ensures.builder i) c.args.at (read i)) ∙ unscoped_step s c.args.at (tagged s c.args.at c.args.tag) in
-    subst (λ (r : Result Builder Fault). Gives c.tagged_step.result r) same c.tagged_step.ensures
+    c.in_ok-tagged.ensures ∙ ap (λ (bs : List Binding). tagged_with (bindings_of c.args.tag.attributes ++ bs) c.args.at c.args.tag) c.in_ok-scope.ensures.scope in
+    let same : tagged_step c.take_scope.new.builder c.args.at c.in_ok-tagged.tagged ≡ start_step s c.args.at c.args.tag =
+    (λ i. tagged_step (c.in_ok-scope.ensures.builder i) c.args.at (read i)) ∙ unscoped_step s c.args.at (tagged s c.args.at c.args.tag) in
+    subst (λ (r : Result Builder Fault). Makes c.tagged_step.result c.tagged_step.new.builder r) same c.tagged_step.ensures
