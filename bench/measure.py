@@ -26,6 +26,8 @@ from sidecars import SHAPES
 HERE = os.path.dirname(os.path.abspath(__file__))
 MIB = 1 << 20
 SECONDS = 300
+# the status of `timeout` where the time is up
+TOO_LONG = 124
 SMALL_RUNS = 500
 GNU_TIME = shutil.which("time", path="/usr/bin:/bin")
 QUIET = {"stdout": subprocess.DEVNULL, "stderr": subprocess.DEVNULL}
@@ -49,12 +51,12 @@ def tools(program: str, path: str):
 def seconds_of(command, times: int = 1):
     """Seconds of a run, as a mean of several in one shell; None after too long."""
     loop = f'n=0; while [ $n -lt {times} ]; do "$@" >/dev/null 2>&1; n=$((n+1)); done'
+    # Python's own time limit polls, at last every 50 ms, and would round each time up to that.
+    limited = ["timeout", str(SECONDS), "sh", "-c", loop, "sh", *command]
     began = time.perf_counter()
-    try:
-        subprocess.run(["sh", "-c", loop, "sh", *command], timeout=SECONDS, check=False, **QUIET)
-    except subprocess.TimeoutExpired:
-        return None
-    return (time.perf_counter() - began) / times
+    status = subprocess.run(limited, check=False, **QUIET).returncode
+    taken = (time.perf_counter() - began) / times
+    return None if status == TOO_LONG else taken
 
 
 def peak_of(command):
