@@ -10,3 +10,4 @@ pub mod WritingSteps
 pub mod ValidHints
 pub mod FreeNumbers
 pub mod ShownRuns
+pub mod Worked

@@ -8,7 +8,8 @@ use Rattle.xmp_tree.specs.declared.nested.Shape.{out-Shape, Struct, Array, Row_o
 use Rattle.xmp_tree.specs.declared.nested.Member.{Member, Member', outs-Member'}
 use Rattle.xmp_tree.specs.declared.nested.Kind.{Kind}
 use Rattle.xmp_tree.specs.Wf.{name_of, value_of}
-use Rattle.xmp_write.specs.Lines.{spelled, shape_word, field_path, qualifier_path, item_path, value_lines, shape_lines, member_lines, members_lines, items_lines}
+use Rattle.xmp_write.specs.Prefixes.{spelled}
+use Rattle.xmp_write.specs.Lines.{shape_word, field_path, qualifier_path, item_path, value_lines, shape_lines, member_lines, members_lines, items_lines}
 use Rattle.xmp_write.specs.Writing.{items_from}
 use Rattle.xmp_write.proofs.Levels.{fields_of, items_of}
 

@@ -1,6 +1,8 @@
 pub mod Packets
 pub mod Written
 pub mod Prefixes
+pub mod Text
+pub mod WrittenPackets
 pub mod Lines
 pub mod Texts
 pub mod Hinted

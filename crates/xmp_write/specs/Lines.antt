@@ -2,7 +2,6 @@
 use Rattle.std.specs.Prelude.{ℕ, ◌+◌, ◌==◌, if◌then◌else◌, codes, decimal, List, [], ◌∷◌, ◌++◌, length}
 use Rattle.std.specs.List.{flat_map}
 use Rattle.xmp_values.specs.declared.hints.Hint.{Hint}
-use Rattle.xmp_values.specs.declared.text.Name.{Name}
 use Rattle.xmp_tree.specs.declared.nested.Kind.{Kind}
 use Rattle.xmp_tree.specs.declared.nested.Kind.TheVariants.{Bag, Seq, Alt}
 use Rattle.xmp_tree.specs.declared.nested.Value.{Value, Value', Row_of-Member, end_of-Member, more_of-Member}
@@ -10,7 +9,7 @@ use Rattle.xmp_tree.specs.declared.nested.Member.{Member, Member'}
 use Rattle.xmp_tree.specs.declared.nested.Shape.{Shape, Shape-F, out-Shape, Simple, Uri, Struct', Array', Row_of-Value, end_of-Value, more_of-Value}
 use Rattle.xmp_tree.specs.declared.nested.Shape.TheOpen as layer
 use Rattle.xmp_tree.specs.Parts.{Parts}
-use Rattle.xmp_write.specs.Prefixes.{written_prefix}
+use Rattle.xmp_write.specs.Prefixes.{spelled}
 
 -- a byte of a text, so that the text stays on its line: `\` is `\\`, LF `\n`, CR `\r`, tab `\t`
 abbrev pub shown_byte : ℕ → List ℕ
@@ -22,10 +21,6 @@ shown_byte b =
 
 abbrev pub shown : List ℕ → List ℕ
 shown = flat_map shown_byte
-
--- a name, `prefix:local`
-abbrev pub spelled : List Hint → Name → List ℕ
-spelled ps name = written_prefix ps name.space ++ codes ":" ++ name.local
 
 abbrev pub kind_word : Kind → List ℕ
 kind_word Bag = codes "bag "

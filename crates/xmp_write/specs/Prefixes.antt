@@ -4,6 +4,7 @@ use Rattle.std.specs.Prelude.{ℕ, ◌+◌, Bool, not, ◌&&◌, ◌||◌, if◌
 use Rattle.std.specs.List.{list_any, position_or_len, range_with_len}
 use Rattle.std.specs.Str.{bytes_eq}
 use Rattle.xmp_values.specs.declared.hints.Hint.{Hint}
+use Rattle.xmp_values.specs.declared.text.Name.{Name}
 use Rattle.known_prefixes.specs.Prefixes.{fixed_prefix, known_prefix, is_fixed, is_known, begins_xml}
 use Rattle.xmp_tree.specs.Parts.{Parts}
 use Rattle.xmp_write.specs.declared.forms.Form.{Form}
@@ -58,3 +59,7 @@ prefixes t hints form = fold (with_prefix hints) [] (declared_spaces t form)
 -- the prefix with which a name of a namespace is written; where there is none it is empty
 abbrev pub written_prefix : List Hint → List ℕ → List ℕ
 written_prefix ps space = unwrap_or (fixed_prefix space) (unwrap_or (prefix_in ps space) [])
+
+-- a name, `prefix:local`
+abbrev pub spelled : List Hint → Name → List ℕ
+spelled ps name = written_prefix ps name.space ++ codes ":" ++ name.local

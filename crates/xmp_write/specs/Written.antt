@@ -4,7 +4,7 @@ use Rattle.std.specs.List.{flat_map}
 use Rattle.xmp_tree.specs.declared.nested.Value.{Value, Value', Row_of-Member, end_of-Member, more_of-Member}
 use Rattle.xmp_tree.specs.declared.nested.Member.{Member, Member'}
 use Rattle.xmp_tree.specs.declared.nested.Shape.{Shape, Simple, Uri, Struct', Array', Row_of-Value, end_of-Value, more_of-Value}
-use Rattle.xmp_tree.specs.Parts.{Parts}
+use Rattle.xmp_tree.specs.Parts.{Parts, member, simple}
 use Rattle.xmp_tree.specs.Wf.{note_name}
 use Rattle.xmp_write.specs.declared.forms.Form.{Form}
 
@@ -37,7 +37,15 @@ abbrev mutual
 abbrev pub written_props : Parts → Form → List Member
 written_props t form = slice_range t.props form.first (form.first + form.count)
 
--- the note is the first property, where it is written
+-- The note is a simple text under its name, and no property of the tree.
+abbrev pub note_members : Option (List ℕ) → List Member
+note_members None = []
+note_members (Some digits) = member note_name (simple digits) ∷ []
+
+-- what is written as the properties: the note first, where there is one
+abbrev pub written_members : Parts → Form → List Member
+written_members t form = note_members form.note ++ written_props t form
+
 abbrev pub note_spaces : Option (List ℕ) → List (List ℕ)
 note_spaces None = []
 note_spaces (Some digits) = note_name.space ∷ []

@@ -4,7 +4,8 @@ ghost use Rattle.std.specs.List.{flat_map};
 ghost use Rattle.std.specs.Option.{option_copied};
 ghost use Rattle.xmp_tree.specs.declared.nested.Shape.{out-Shape};
 ghost use Rattle.xmp_write.specs.Writing.{Adds, items_from};
-ghost use Rattle.xmp_write.specs.Lines.{shown, shown_byte, spelled, shape_word, kind_word, value_lines, shape_lines, member_lines, item_path, lines};
+ghost use Rattle.xmp_write.specs.Prefixes.{spelled};
+ghost use Rattle.xmp_write.specs.Lines.{shown, shown_byte, shape_word, kind_word, value_lines, shape_lines, member_lines, item_path, lines};
 
 use crate::prefixes::Prefixes;
 use itoa::Buffer;
