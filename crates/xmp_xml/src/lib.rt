@@ -1,9 +1,30 @@
 //! The XML of packets: a text to its one document, or to its first fault.
 //!
-//! The layer's face: `read`, `Doc` and the element types under one roof. The reader stands in
-//! `xml_documents`, its definitions in `xml_grammar`. XML 1.0 (fifth edition) and Namespaces in
-//! XML 1.0, without document types.
+//! The reader goes over a text once, from left to right, with the open elements on a stack.
+//! It stands on `xml_tokenizer`, which reads the tokens, and on `xml_grammar`, which says what
+//! a document and a fault are, and whose element types it offers too. XML 1.0 (fifth edition)
+//! and Namespaces in XML 1.0, without document types.
 #![tactic(auto)]
 
-pub use xml_documents::{Doc, XmlStop, read};
+mod builder;
+mod contents;
+mod declarations;
+mod hints;
+mod named;
+mod numbers;
+mod pending;
+mod places;
+mod reading;
+mod scopes;
+mod stack;
+mod steps;
+mod stops;
+mod tags;
+
+pub use contents::Doc;
+pub use reading::read;
+pub use stops::XmlStop;
 pub use xml_grammar::{Attribute, Attributes, Child, Children, Element};
+
+#[cfg(test)]
+mod tests;

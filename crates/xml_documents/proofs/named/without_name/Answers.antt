@@ -1,6 +1,0 @@
-use Rattle.std.proofs.Common.{None}
-use Rattle.xml_documents.proofs.Naming.{named_updates}
-use Rattle.xml_documents.proofs.named.without_name.Goals as goal
-
-pub returns : goal.returns
-returns c = named_updates c.args.name.now c.args.map c.remove.new.self None c.remove.ensures.updates

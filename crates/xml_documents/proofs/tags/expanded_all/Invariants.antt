@@ -1,6 +1,0 @@
-use Rattle.std.proofs.Common.{◌≡◌, map}
-use Rattle.xml_grammar.specs.Scopes.{expanded}
-use Rattle.xml_documents.proofs.tags.expanded_all.Given as goal
-
-abbrev pub invariant-loop-attribute : goal.invariant-loop-attribute
-invariant-loop-attribute l = l.attributes ≡ map (expanded l.scope) l.yielded

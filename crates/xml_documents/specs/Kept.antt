@@ -1,8 +1,0 @@
--- The bytes of a text that grows.
-use Rattle.std.specs.Prelude.{ℕ, List}
-use Rattle.xml_documents.specs.declared.pending.Kept.{Kept}
-use Rattle.xml_documents.specs.declared.pending.Kept.TheVariants.{One, Many}
-
-abbrev pub bytes_of : Kept → List ℕ
-bytes_of (One text) = text
-bytes_of (Many bytes) = bytes

@@ -1,9 +1,0 @@
--- Where prefixes are bound.
-use Rattle.std.specs.Prelude.{ℕ, List, Option, Some, None}
-use Rattle.xml_documents.specs.declared.places.Places.{Places}
-use Rattle.xml_documents.specs.Named.{named_at}
-
--- the place of a prefix, or of the default namespace
-abbrev pub place_at : Places → Option (List ℕ) → Option ℕ
-place_at s None = s.default
-place_at s (Some name) = named_at s.named name

@@ -1,0 +1,180 @@
+//! A document from left to right.
+
+ghost use Rattle.std.specs.Prelude.{◌≡◌, ◌≢◌, ◌+◌, ◌<◌, ◌≤◌, ◌^◌, ◌++◌, [], ℕ, List, length, IfOk, IfErr, OnOk, IsUtf8};
+ghost use Rattle.std.specs.Str.{chars};
+ghost use Rattle.xmp_values.specs.declared.hints.Hint.{Hint};
+ghost use Rattle.xmp_values.specs.declared.rules.Rule.{Rule};
+ghost use Rattle.xml_grammar.specs.declared.elements.Element.{Element};
+ghost use Rattle.xml_grammar.specs.Documents.{IsDocument, IsFault};
+ghost use Rattle.xml_grammar.specs.Pieces.{StandsRow, pieces_of};
+ghost use Rattle.xml_tokenizer.specs.Stands.{IsBehind};
+ghost use Rattle.xmp_xml.specs.Answering.{Gives};
+ghost use Rattle.xmp_xml.specs.Building.{is_nil};
+ghost use Rattle.xmp_xml.specs.Document.{Advances, finish};
+ghost use Rattle.xmp_xml.specs.Reading.{mode_by, stop_at, Stops, IsStop, AnswersDocument, AnswersFault};
+
+use crate::builder::{Builder, new_builder};
+use crate::contents::Doc;
+use crate::hints::first_hints;
+use crate::steps::token_step;
+use crate::stops::XmlStop;
+use std::alloc::Global;
+use xml_grammar::{Element, Mode, Token};
+use xml_tokenizer::{TokenStop, behind_mark, text_of, token_of};
+use xmp_values::{Hint, Hints, Rule, Sequence};
+
+/// Where the next piece stands.
+fn mode_of(builder: &Builder<'_>) -> Mode
+    ensures { result ≡ mode_by (is_nil builder.now.outer) builder.now.first }
+{
+    if !builder.outer.is_empty() {
+        return Mode::Inside;
+    }
+    if builder.first {
+        Mode::Start
+    } else {
+        Mode::Outside
+    }
+}
+
+/// The text before what is left of it.
+fn front<'p>(text: &'p str, rest: &'p str) -> &'p str
+    requires shorter { length rest.now ≤ length text.now }
+    requires behind { IsBehind text.now rest.now }
+    ensures { text.now ≡ result.now ++ rest.now }
+{
+    let (front, _) = text.split_at(text.len() - rest.len());
+    front
+}
+
+fn stop_at(stop: TokenStop, at: u64) -> XmlStop
+    ensures { result ≡ stop_at stop at }
+{
+    match stop {
+        TokenStop::Memory => XmlStop::Memory,
+        TokenStop::Fault(rule) => XmlStop::Fault(rule, at),
+    }
+}
+
+/// Past a token that stands at the front of what is left.
+fn advance_by<'p>(
+    alloc: Global,
+    builder: &mut Builder<'p>,
+    at: u64,
+    mode: Mode,
+    token: Token<'p>,
+    rest: &'p str,
+    behind: &'p str,
+) -> Result<(), XmlStop>
+    requires fits { at + length rest.now < 2 ^ 64 }
+    requires mode { mode ≡ mode_by (is_nil builder.old.outer) builder.old.first }
+    requires stands { StandsRow mode (pieces_of token) (chars rest.now) (chars behind.now) }
+    requires some { pieces_of token ≢ [] }
+    requires behind { IsBehind rest.now behind.now }
+    ensures further { OnOk result (Advances builder.old at (chars rest.now) builder.new (chars behind.now)) }
+    ensures stops { IfErr result (Stops builder.old at (chars rest.now)) }
+{
+    let run = front(rest, behind);
+    token_step(alloc, builder, at, token, run.as_bytes())
+}
+
+/// One token further.
+fn advance<'p>(
+    alloc: Global,
+    builder: &mut Builder<'p>,
+    at: u64,
+    rest: &'p str,
+) -> Result<&'p str, XmlStop>
+    requires fits { at + length rest.now < 2 ^ 64 }
+    requires some { rest.now ≢ [] }
+    ensures further { IfOk result (λ behind. Advances builder.old at (chars rest.now) builder.new (chars behind.now)) }
+    ensures shorter { IfOk result (λ behind. length behind.now < length rest.now) }
+    ensures utf8 { IfOk result (λ behind. IsUtf8 behind.now) }
+    ensures stops { IfErr result (Stops builder.old at (chars rest.now)) }
+{
+    let mode = mode_of(builder);
+    match token_of(alloc, mode, rest) {
+        Ok((token, behind)) => {
+            advance_by(alloc, builder, at, mode, token, rest, behind)?;
+            Ok(behind)
+        }
+        Err(stop) => Err(stop_at(stop, at)),
+    }
+}
+
+/// The end of the text.
+fn finish<'p>(
+    alloc: Global,
+    builder: Builder<'p>,
+    at: u64,
+) -> Result<(Element<'p>, Sequence<Hint>), XmlStop>
+    ensures { Gives result (finish builder.entry at) }
+{
+    let Builder {
+        first: _,
+        outer,
+        top: _,
+        text: _,
+        root,
+        hints,
+        scope: _,
+    } = builder;
+    if !outer.is_empty() {
+        return Err(XmlStop::Fault(Rule::Unfinished, at));
+    }
+    match root {
+        None => Err(XmlStop::Fault(Rule::Unfinished, at)),
+        Some(root) => {
+            let declared = first_hints(alloc, hints.as_slice())?;
+            Ok((root, declared))
+        }
+    }
+}
+
+/// The root and the hints of a text.
+fn read_text<'p>(alloc: Global, text: &'p str) -> Result<(Element<'p>, Sequence<Hint>), XmlStop>
+    ensures document { IfOk result (λ x. IsDocument text.now x.0 x.1) }
+    ensures stop { IfErr result (IsStop text.now) }
+{
+    let mut builder = new_builder(alloc);
+    let mut rest = behind_mark(text);
+    for _ in 0..text.len() {
+        if rest.is_empty() {
+            return finish(alloc, builder, text.len() as u64);
+        }
+        let at = (text.len() - rest.len()) as u64;
+        rest = advance(alloc, &mut builder, at, rest)?;
+    }
+    finish(alloc, builder, text.len() as u64)
+}
+
+/// The root and the hints of a text in bytes.
+fn read_bytes<'p>(alloc: Global, bytes: &'p [u8]) -> Result<(Element<'p>, Sequence<Hint>), XmlStop>
+    ensures document { IfOk result (λ x. IsDocument bytes.now x.0 x.1) }
+    ensures stop { IfErr result (IsStop bytes.now) }
+{
+    match text_of(bytes) {
+        Ok(text) => read_text(alloc, text),
+        Err((rule, place)) => Err(XmlStop::Fault(rule, place)),
+    }
+}
+
+/// The document of a text, or its first fault.
+pub fn read<'p>(alloc: Global, text: &'p [u8]) -> Result<Doc<'p>, XmlStop>
+    // A document is the text's.
+    ensures document { IfOk result (λ d. IsDocument text.now d.root d.declared) }
+    // A fault is the text's first one.
+    ensures stop { IfErr result (IsStop text.now) }
+    // A text that has a document is read, unless memory runs out.
+    ensures each_document { (root : Element) (declared : List Hint) → IsDocument text.now root declared → AnswersDocument root declared result }
+    // A fault that a text has is answered, unless memory runs out.
+    ensures each_fault { (r : Rule) (place : ℕ) → IsFault text.now r place → AnswersFault r place result }
+{
+    match read_bytes(alloc, text) {
+        Ok((root, list)) => {
+            let declared = Hints::from_list(list);
+            Ok(Doc { root, declared })
+        }
+        Err(stop) => Err(stop),
+    }
+}

@@ -1,0 +1,264 @@
+//! A tag with its declarations apart and its names expanded.
+
+ghost use Rattle.std.specs.Prelude.{◌≡◌, ◌++◌, ◌||◌, map, IfOk};
+ghost use Rattle.std.specs.List.{list_any};
+ghost use Rattle.xml_grammar.specs.Scopes.{bindings_of, bound_to, or_nothing, attribute_space, expanded, is_unbound};
+ghost use Rattle.xml_grammar.specs.Nesting.{has_twice};
+ghost use Rattle.xmp_xml.specs.Tagging.{with_declaration, with_plain, with_attribute, divided, lacks_one, same_attribute, frame_in, tagged_with};
+
+use crate::builder::Frame;
+use crate::declarations::Declared;
+use crate::scopes::Scope;
+use std::alloc::Global;
+use xml_grammar::{Attribute, Attributes, Children, QName, RawAttribute, Tag};
+use xmp_values::{Hint, Memory, Name, Sequence, Text};
+
+/// The attributes of a tag, with the declarations apart.
+#[derive(Drop)]
+pub struct Parts<'p> {
+    pub declared: Declared<'p>,
+    pub plain: Sequence<RawAttribute<'p>>,
+}
+
+/// A tag with its names expanded, and what is wrong with it.
+#[derive(Drop)]
+pub struct Tagged<'p> {
+    pub frame: Frame<'p>,
+    /// The declarations in force inside the element.
+    pub scope: Scope<'p>,
+    pub hints: Sequence<Hint>,
+    /// A declaration isn't allowed.
+    pub misbound: bool,
+    /// A prefix isn't bound.
+    pub unbound: bool,
+    /// Two attributes have the same name.
+    pub twice: bool,
+    pub empty: bool,
+}
+
+fn with_declaration<'p>(
+    parts: Parts<'p>,
+    prefix: Option<Text<'p>>,
+    space: Text<'p>,
+) -> Result<Parts<'p>, Memory>
+    ensures { IfOk result (λ x. x ≡ with_declaration parts.entry prefix.entry space.entry) }
+{
+    let Parts { declared, plain } = parts;
+    Ok(Parts {
+        declared: declared.with(prefix, space)?,
+        plain,
+    })
+}
+
+fn with_plain<'p>(parts: Parts<'p>, attribute: RawAttribute<'p>) -> Result<Parts<'p>, Memory>
+    ensures { IfOk result (λ x. x ≡ with_plain parts.entry attribute.entry) }
+{
+    let Parts {
+        declared,
+        mut plain,
+    } = parts;
+    plain.push(attribute)?;
+    Ok(Parts { declared, plain })
+}
+
+/// One attribute more.
+fn with_attribute<'p>(parts: Parts<'p>, attribute: RawAttribute<'p>) -> Result<Parts<'p>, Memory>
+    ensures { IfOk result (λ x. x ≡ with_attribute parts.entry attribute.entry) }
+{
+    let RawAttribute { name, value } = attribute;
+    let QName { prefix, local } = name;
+    match prefix {
+        None => {
+            if local.bytes() == b"xmlns".as_slice() {
+                return with_declaration(parts, None, value);
+            }
+            let name = QName {
+                prefix: None,
+                local,
+            };
+            with_plain(parts, RawAttribute { name, value })
+        }
+        Some(prefix) => {
+            if prefix.bytes() == b"xmlns".as_slice() {
+                return with_declaration(parts, Some(local), value);
+            }
+            let name = QName {
+                prefix: Some(prefix),
+                local,
+            };
+            with_plain(parts, RawAttribute { name, value })
+        }
+    }
+}
+
+fn divided<'p>(alloc: Global, attributes: Sequence<RawAttribute<'p>>) -> Result<Parts<'p>, Memory>
+    ensures { IfOk result (λ x. x ≡ divided attributes.entry) }
+{
+    let mut parts = Parts {
+        declared: Declared::new(alloc),
+        plain: Sequence::new(alloc),
+    };
+    for attribute in attributes.into_vec() {
+        parts = with_attribute(parts, attribute)?;
+    }
+    Ok(parts)
+}
+
+/// Whether a prefix isn't bound.
+fn lacks(scope: &Scope<'_>, prefix: &Option<Text<'_>>) -> bool
+    ensures { result ≡ is_unbound scope.now prefix.now }
+{
+    match prefix {
+        None => false,
+        Some(_) => scope.bound_to(prefix).is_none(),
+    }
+}
+
+/// The namespace of a prefix.
+fn space_of<'p>(
+    alloc: Global,
+    scope: &Scope<'p>,
+    prefix: &Option<Text<'_>>,
+) -> Result<Text<'p>, Memory>
+    ensures { IfOk result (λ t. t ≡ or_nothing (bound_to scope.now prefix.now)) }
+{
+    let Some(space) = scope.bound_to(prefix) else {
+        return Ok(Text::raw(b"".as_slice()));
+    };
+    space.again(alloc)
+}
+
+fn attribute_space<'p>(
+    alloc: Global,
+    scope: &Scope<'p>,
+    prefix: &Option<Text<'_>>,
+) -> Result<Text<'p>, Memory>
+    ensures { IfOk result (λ t. t ≡ attribute_space scope.now prefix.now) }
+{
+    match prefix {
+        None => Ok(Text::raw(b"".as_slice())),
+        Some(_) => space_of(alloc, scope, prefix),
+    }
+}
+
+fn expanded_one<'p>(
+    alloc: Global,
+    scope: &Scope<'p>,
+    attribute: RawAttribute<'p>,
+) -> Result<Attribute<'p>, Memory>
+    ensures { IfOk result (λ a. a ≡ expanded scope.now attribute.entry) }
+{
+    let RawAttribute { name, value } = attribute;
+    let QName { prefix, local } = name;
+    let space = attribute_space(alloc, scope, &prefix)?;
+    Ok(Attribute {
+        name: Name { space, local },
+        value,
+    })
+}
+
+/// The attributes with their names expanded.
+fn expanded_all<'p>(
+    alloc: Global,
+    scope: &Scope<'p>,
+    plain: Sequence<RawAttribute<'p>>,
+) -> Result<Attributes<'p>, Memory>
+    ensures { IfOk result (λ all. all ≡ map (expanded scope.now) plain.entry) }
+{
+    let mut attributes = Attributes::new(alloc);
+    for attribute in plain.into_vec() {
+        attributes.push(expanded_one(alloc, scope, attribute)?)?;
+    }
+    Ok(attributes)
+}
+
+/// Whether the prefix of an attribute isn't bound.
+fn any_lacks(scope: &Scope<'_>, plain: &[RawAttribute<'_>]) -> bool
+    ensures { result ≡ list_any (lacks_one scope.now) plain.now }
+{
+    for attribute in plain {
+        if lacks(scope, &attribute.name.prefix) {
+            return true;
+        }
+    }
+    false
+}
+
+/// Whether a prefix of the tag's name or of an attribute isn't bound.
+fn is_unbound(scope: &Scope<'_>, name: &QName<'_>, plain: &[RawAttribute<'_>]) -> bool
+    ensures { result ≡ (is_unbound scope.now name.now.prefix || list_any (lacks_one scope.now) plain.now) }
+{
+    lacks(scope, &name.prefix) || any_lacks(scope, plain)
+}
+
+/// Whether a prefix is declared twice, or two attributes have the same name.
+fn is_twice(
+    alloc: Global,
+    scope: &Scope<'_>,
+    again: bool,
+    plain: &[RawAttribute<'_>],
+) -> Result<bool, Memory>
+    ensures { IfOk result (λ twice. twice ≡ (again || has_twice same_attribute (map (expanded scope.now) plain.now))) }
+{
+    if again {
+        return Ok(true);
+    }
+    Ok(!scope.are_apart(alloc, plain)?)
+}
+
+/// The frame of an element, with its names expanded.
+fn frame_in<'p>(
+    alloc: Global,
+    scope: &Scope<'p>,
+    at: u64,
+    name: QName<'p>,
+    plain: Sequence<RawAttribute<'p>>,
+    declared: usize,
+) -> Result<Frame<'p>, Memory>
+    ensures { IfOk result (λ f. f ≡ frame_in scope.now at name.entry plain.entry declared) }
+{
+    Ok(Frame {
+        at,
+        name: Name {
+            space: space_of(alloc, scope, &name.prefix)?,
+            local: name.local.again(alloc)?,
+        },
+        spelled: name,
+        attributes: expanded_all(alloc, scope, plain)?,
+        declared,
+        children: Children::new(alloc),
+    })
+}
+
+/// A tag with its names expanded, and what is wrong with it; `around` is in force for the tag.
+pub fn read_tag<'p>(
+    alloc: Global,
+    around: Scope<'p>,
+    at: u64,
+    tag: Tag<'p>,
+) -> Result<Tagged<'p>, Memory>
+    ensures { IfOk result (λ t. t ≡ tagged_with (bindings_of tag.entry.attributes ++ around.entry) at tag.entry) }
+{
+    let Tag {
+        name,
+        attributes,
+        empty,
+    } = tag;
+    let Parts { declared, plain } = divided(alloc, attributes)?;
+    let hints = declared.hints(alloc)?;
+    let misbound = declared.has_misbound();
+    let count = declared.len();
+    let (scope, again) = around.entered(alloc, declared)?;
+    let unbound = is_unbound(&scope, &name, plain.as_slice());
+    let twice = is_twice(alloc, &scope, again, plain.as_slice())?;
+    let frame = frame_in(alloc, &scope, at, name, plain, count)?;
+    Ok(Tagged {
+        frame,
+        scope,
+        hints,
+        misbound,
+        unbound,
+        twice,
+        empty,
+    })
+}
