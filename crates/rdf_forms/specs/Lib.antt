@@ -11,3 +11,4 @@ pub mod Entering
 pub mod Rules
 pub mod Broken
 pub mod Meaning
+pub mod Merging

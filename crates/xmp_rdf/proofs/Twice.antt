@@ -18,7 +18,7 @@ use Rattle.rdf_forms.specs.Words.{same_name}
 use Rattle.rdf_forms.specs.Entering.{Holds}
 use Rattle.rdf_forms.proofs.Clashes.{stands, stands_is, stands-held}
 use Rattle.rdf_forms.proofs.EnteredLists.{holds_behind, holds_through}
-use Rattle.xmp_rdf.specs.Merging.{stands_in, first_twice}
+use Rattle.rdf_forms.specs.Merging.{stands_in, first_twice}
 
 -- the names of the first properties, and of one more
 pub names_more : (ps : List Member) (at : ℕ) (p : Member) → at < length ps → p ≡ get_or ps at p → map name_of (take at ps) ++ name_of p ∷ [] ≡ map name_of (take (at + 1) ps)

@@ -1,23 +1,13 @@
 -- Two meanings merged: that of a packet and that of its extended text (XMP Specification, Part 3, Storage in
 -- Files, 1.1.3.1).
-use Rattle.std.specs.Prelude.{◌≡◌, ℕ, Bool, not, List, ◌++◌, map, filter, position, slice_index, Option, Some, None, Result, Ok, Err}
+use Rattle.std.specs.Prelude.{◌≡◌, ℕ, Bool, not, List, ◌++◌, filter, slice_index, Option, Some, None, Result, Ok, Err}
 use Rattle.std.specs.List.{list_any}
 use Rattle.std.specs.Str.{bytes_eq}
 use Rattle.xmp_values.specs.declared.hints.Hint.{Hint}
-use Rattle.xmp_tree.specs.declared.nested.Member.{Member}
-use Rattle.xmp_tree.specs.Wf.{name_of}
-use Rattle.rdf_forms.specs.Words.{same_name}
+use Rattle.rdf_forms.specs.Merging.{first_twice, both_trees}
 use Rattle.xmp_rdf.specs.declared.meanings.Meaning.{Meaning}
 use Rattle.xmp_rdf.specs.declared.merging.MergeStop.{MergeStop}
 use Rattle.xmp_rdf.specs.declared.merging.MergeStop.TheVariants as stops
-
--- a property of the same name stands among these
-abbrev pub stands_in : List Member → Member → Bool
-stands_in props p = list_any (same_name (name_of p)) (map name_of props)
-
--- the number of the second's first property that stands in the first
-abbrev pub first_twice : List Member → List Member → Option ℕ
-first_twice main more = position (stands_in main) more
 
 abbrev pub has_space : List Hint → List ℕ → Bool
 has_space hints space = list_any (λ h. bytes_eq h.space space) hints
@@ -26,10 +16,10 @@ has_space hints space = list_any (λ h. bytes_eq h.space space) hints
 abbrev pub new_hints : List Hint → List Hint → List Hint
 new_hints main more = filter (λ h. not (has_space main h.space)) more
 
--- The second's properties, places and new hints behind the first's. The about and the note are the first's.
+-- Both trees in one, with the second's places and new hints after the first's. The note is the first's.
 abbrev pub both : Meaning → Meaning → Meaning
 both main more = record {
-  tree = record { about = main.tree.about; props = main.tree.props ++ more.tree.props };
+  tree = both_trees main.tree more.tree;
   hints = main.hints ++ new_hints main.hints more.hints;
   note = main.note;
   places = main.places ++ more.places;

@@ -4,7 +4,8 @@ ghost use Rattle.std.specs.List.{list_any};
 ghost use Rattle.xmp_tree.specs.Wf.{name_of, NamesDiffer};
 ghost use Rattle.rdf_forms.specs.Words.{same_name};
 ghost use Rattle.rdf_forms.specs.Entering.{Holds};
-ghost use Rattle.xmp_rdf.specs.Merging.{first_twice, both, merged, Gives};
+ghost use Rattle.rdf_forms.specs.Merging.{first_twice, both_trees};
+ghost use Rattle.xmp_rdf.specs.Merging.{both, merged, Gives};
 
 use crate::hints::merge_hints;
 use crate::meanings::Meaning;
@@ -78,7 +79,7 @@ fn tree_twice(alloc: Global, main: &Tree<'_>, more: &Tree<'_>) -> Result<Option<
 /// The properties of `more` behind those of `main`, under main's about.
 fn merge_trees<'p>(main: Tree<'p>, more: Tree<'p>) -> Result<Tree<'p>, Memory>
     requires { first_twice main.props more.props ≡ None }
-    ensures { IfOk result (λ t. t ≡ record { about = main.entry.about; props = main.entry.props ++ more.entry.props }) }
+    ensures { IfOk result (λ t. t ≡ both_trees main.entry more.entry) }
 {
     let Tree { about, mut props } = main;
     let Tree {

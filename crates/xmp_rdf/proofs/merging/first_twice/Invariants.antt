@@ -2,7 +2,7 @@ use Rattle.std.proofs.Common.{◌≡◌, ℕ, ◌<◌, ◌++◌, take, map, get_
 use Rattle.xmp_tree.specs.declared.nested.Member.{Member}
 use Rattle.xmp_tree.specs.Wf.{name_of}
 use Rattle.rdf_forms.specs.Entering.{Holds}
-use Rattle.xmp_rdf.specs.Merging.{stands_in}
+use Rattle.rdf_forms.specs.Merging.{stands_in}
 use Rattle.xmp_rdf.proofs.merging.first_twice.Given as goal
 
 abbrev pub invariant-loop-at : goal.invariant-loop-at

@@ -1,6 +1,7 @@
 use Rattle.std.proofs.Common.{◌≡◌, ◌∙◌, Some, None, Ok, Err, ap, sym}
 use Rattle.std.specs.Prelude.{slice_index}
-use Rattle.xmp_rdf.specs.Merging.{first_twice, both_unless, merged}
+use Rattle.rdf_forms.specs.Merging.{first_twice}
+use Rattle.xmp_rdf.specs.Merging.{both_unless, merged}
 use Rattle.xmp_rdf.proofs.merging.merge.Goals as goal
 
 pub returns-in-Some : goal.returns-in-Some

@@ -1,7 +1,7 @@
 use Rattle.std.proofs.Common.{◌≡◌, ◌∙◌, sym, subst}
 use Rattle.xmp_tree.specs.Parts.{Parts}
 use Rattle.xmp_tree.specs.Wf.{Wf}
-use Rattle.xmp_rdf.specs.Merging.{first_twice}
+use Rattle.rdf_forms.specs.Merging.{first_twice}
 use Rattle.xmp_rdf.proofs.Twice.{formed_both}
 use Rattle.xmp_rdf.proofs.merging.merge_trees.Goals as goal
 
