@@ -10,10 +10,7 @@ mod giving;
 mod hinted;
 mod laws;
 mod listing;
-mod packets;
 mod prefixes;
-#[cfg(test)]
-mod tests;
 #[cfg(test)]
 mod tree_tests;
 mod uses;
@@ -23,5 +20,5 @@ mod valid_hints;
 pub use forms::Form;
 pub use laws::the_least_free_number;
 pub use listing::lines;
-pub use packets::{Packet, PacketInfo};
 pub use prefixes::Prefixes;
+pub use xmp_packets::{Packet, PacketInfo};

@@ -3,7 +3,7 @@
 ghost use Rattle.std.specs.Prelude.{◌≡◌, ◌==◌, ◌≤◌, length};
 ghost use Rattle.std.specs.List.{suffix_len};
 ghost use Rattle.xmp_values.specs.Characters.{is_blank};
-ghost use Rattle.xmp_write.specs.Packets.{without_end, packet_text, is_packet_for_writing, is_writable};
+ghost use Rattle.xmp_packets.specs.Packets.{without_end, packet_text, is_packet_for_writing, is_writable};
 
 use xmp_values::is_blank_byte;
 
