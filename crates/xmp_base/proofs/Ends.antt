@@ -9,7 +9,7 @@ use Rattle.xmp_base.specs.declared.device.Failed.{Failed}
 use Rattle.xmp_base.specs.Device.{DeskState, Files, Lens, ReadCall, WriteCall, CreateCall, bytes_of, len_of, is_known, put_at, Torn, NotFewer, SameFiles, Rose}
 use Rattle.xmp_base.specs.Windows.{MovesInside, Grown, PartOf, Grows, AppendCall, CopyCall}
 use Rattle.xmp_base.proofs.Names.{get-insert_same, get-insert_other, insert_held, insert_twice}
-use Rattle.xmp_base.proofs.Calls.{counts_trans, rose_after}
+use Rattle.xmp_base.proofs.Calls.{counts_trans, rose_after, agreed_len}
 use Rattle.xmp_base.proofs.Inside.{inside_none, inside_one, inside_trans, inside_wider}
 
 pub grown_trans : (a b c : Files) (name p q : List ℕ) → Grown a b name p → Grown b c name q → Grown a c name (p ++ q)
@@ -32,7 +32,7 @@ put_end file at piece e =
     ∙ ap (λ (l : List ℕ). file ++ piece ++ l) (drop_all (at + length piece) file (omega (arith, e)))
     ∙ append-nil (file ++ piece)
 
-held_bytes : (files : Files) (name bytes : List ℕ) → get files name ≡ Some bytes → bytes_of files name ≡ bytes
+pub held_bytes : (files : Files) (name bytes : List ℕ) → get files name ≡ Some bytes → bytes_of files name ≡ bytes
 held_bytes files name bytes held = ap (λ (o : Option (List ℕ)). unwrap_or o []) held
 
 insert_grown : (files : Files) (name : List ℕ) (at : ℕ) (piece : List ℕ) → length (bytes_of files name) ≡ at
@@ -51,7 +51,7 @@ insert_torn files name at n now size torn = record {
   others = λ other apart. get-insert_other files name now other apart;
 }
 
-known_held : (o : Option ℕ) → is_some o ≡ true → o ≡ Some (unwrap_or o 0)
+pub known_held : (o : Option ℕ) → is_some o ≡ true → o ≡ Some (unwrap_or o 0)
 known_held None h = absurd (cc h)
 known_held (Some n) h = refl
 
@@ -82,7 +82,7 @@ grows_write s t name at n most rest call end = record {
   files = λ files told. (
     insert files name (put_at (bytes_of files name) at (take n rest)),
     call.files ∙ ap (option_map (λ (files : Files). insert files name (put_at (bytes_of files name) at (take n rest)))) told,
-    insert_grown files name at (take n rest) (call.agrees files told ∙ sym end),
+    insert_grown files name at (take n rest) (agreed_len s name call.agrees files told ∙ sym end),
   );
   failed = tt;
 }
@@ -98,7 +98,7 @@ grows_torn s t name at rest e f call end = record {
   ];
   lens = let l = call.lens in (l.0 - at, l.1 ∙ ap (insert s.lens name) (omega (arith, l.2, end)), omega (arith, l.3, end));
   files = λ files told. let f = call.files files told in
-      let size : length (bytes_of files name) ≡ at = call.agrees files told ∙ sym end in
+      let size : length (bytes_of files name) ≡ at = agreed_len s name call.agrees files told ∙ sym end in
       let small : length (drop at f.0) ≤ length rest = omega (arith, length-drop at f.0, f.2.no_longer, size) in (
         insert files name f.0,
         f.1,

@@ -4,7 +4,7 @@ use Rattle.std.specs.declared.option.Option.{Option}
 use Rattle.std.specs.declared.result.Result.{Result}
 use Rattle.std.specs.FinMap.{get, insert}
 use Rattle.xmp_base.specs.Device.{DeskState, Files, Told, Moved, Rose, SameFiles, NotFewer, bytes_of, len_of, OthersKeep}
-use Rattle.xmp_base.specs.Whole.{ReadOnce}
+use Rattle.xmp_base.specs.Whole.{MovedOnce}
 use Rattle.xmp_base.specs.declared.windows.WindowStop.{WindowStop}
 use Rattle.xmp_base.specs.declared.windows.WindowStop.TheVariants.{Device, Memory}
 use Rattle.xmp_base.specs.declared.device.Failed.{Failed}
@@ -32,13 +32,14 @@ pub record FillFrom (s t : DeskState) (name : List ℕ) (at : ℕ) (to : List �
   pub bytes : OnOk result (Told s.files (λ files. to ≡ take (length to) (drop at (bytes_of files name))))
   pub failed : MatchResult result (λ _. Unit {0}) (λ _. Rose s.faults t.faults)
 
--- each byte of a range was read once, and after a failure each before some place of it
-abbrev pub FilledOnce : Result (Unit {0}) Failed → List ℕ → ℕ → ℕ → Option (List Moved) → Option (List Moved) → Type 0
-FilledOnce (Ok _) name at len old new = ReadOnce name at (at + len) old new
-FilledOnce (Err _) name at len old new = (done : ℕ) × (done ≤ len) × ReadOnce name at (at + done) old new
+-- each byte of a range was read once, and after an error each before some place of it
+abbrev pub FilledOnce : {A E : Type 0} → Result A E → List ℕ → ℕ → ℕ → Option (List Moved) → Option (List Moved) → Type 0
+FilledOnce (Ok _) name at len old new = MovedOnce name at (at + len) old new
+FilledOnce (Err _) name at len old new = (done : ℕ) × (done ≤ len) × MovedOnce name at (at + done) old new
 
 pub record WindowCall (s t : DeskState) (name : List ℕ) (at len : ℕ) (result : Result (List ℕ) WindowStop) : Type 0 where
   pub calls : ReadInside s t name at (at + len)
+  pub once : FilledOnce result name at len s.reads t.reads
   pub size : IfOk result (λ bytes. length bytes ≡ len)
   pub bytes : IfOk result (λ bytes. Told s.files (λ files. bytes ≡ take len (drop at (bytes_of files name))))
   pub device : result ≡ Err Device → Rose s.faults t.faults

@@ -28,7 +28,7 @@ pub use memory_sink::MemorySink;
 pub use sparse_desk::SparseDesk;
 pub use std_sink::StdSink;
 pub use whole::{ReadStop, read_all};
-pub use windows::{WindowStop, append, copy_range, fill_from, window};
+pub use windows::{WindowStop, append, copy_range, fill_from, put_inside, window};
 pub use xmp_values::{
     Bytes, Digits, Fault, Hint, Hints, Memory, Name, Part, Place, Rule, Sequence, Span, Text,
     Words, is_char, is_name,

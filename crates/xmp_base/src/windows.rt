@@ -2,6 +2,7 @@
 ghost use Rattle.std.specs.Prelude.{◌≡◌, ◌≢◌, ◌+◌, ◌<◌, ◌≤◌, ◌^◌, length, IsTrue};
 ghost use Rattle.xmp_base.specs.Device.{is_known, len_of};
 ghost use Rattle.xmp_base.specs.Windows.{FillFrom, FilledOnce, WindowCall, AppendCall, CopyCall};
+ghost use Rattle.xmp_base.specs.Exchange.{PutCall};
 
 use crate::{Desk, Failed};
 use std::alloc::Global;
@@ -14,7 +15,7 @@ pub enum WindowStop {
     Memory,
 }
 
-/// The `len` bytes of a file from `at` on, which it has.
+/// The `len` bytes of a file from `at` on, which it has. Each is read once.
 ///
 /// # Errors
 /// `Device` after a failure that the desk counted, and `Memory` before the desk is used.
@@ -106,6 +107,25 @@ pub fn append<D: Desk>(desk: &mut D, to: &str, end: u64, piece: &[u8]) -> Result
     let mut done = 0;
     while done < piece.len() {
         done += desk.write_at(to, end + done as u64, &piece[done..])?;
+    }
+    Ok(())
+}
+
+/// Exchanges the bytes of a file from `at` on for those of a piece, which end inside the file. It
+/// takes no memory.
+///
+/// # Errors
+/// `Failed` after a failure that the desk counted. The range then begins with a part of the piece,
+/// and behind that holds what one failed write left. All other bytes are the old ones.
+pub fn put_inside<D: Desk>(desk: &mut D, name: &str, at: u64, piece: &[u8]) -> Result<(), Failed>
+    requires known { IsTrue (is_known (D.state desk.old) name.now) }
+    requires within { at + length piece.now ≤ len_of (D.state desk.old) name.now }
+    requires fits { at + length piece.now < 2 ^ 64 }
+    ensures call { PutCall (D.state desk.old) (D.state desk.new) name.now at piece.now result }
+{
+    let mut done = 0;
+    while done < piece.len() {
+        done += desk.write_at(name, at + done as u64, &piece[done..])?;
     }
     Ok(())
 }

@@ -2,7 +2,7 @@ use Rattle.std.proofs.Common.{refl, ap, sym, subst, arith, ◌≡◌, ◌+◌, �
 use Rattle.std.specs.FinMap.{get}
 use Rattle.std.specs.Option.{unwrap_or}
 use Rattle.xmp_base.specs.Device.{Lens, len_of}
-use Rattle.xmp_base.specs.Whole.{ReadOnce}
+use Rattle.xmp_base.specs.Whole.{MovedOnce}
 use Rattle.xmp_base.proofs.Calls.{part_size, put_size, once_more}
 use Rattle.xmp_base.proofs.Inside.{filled_more}
 use Rattle.xmp_base.proofs.windows.fill_from.Goals as goal
@@ -23,6 +23,6 @@ loop-done-preserved g c =
     let once = once_more c.args.name.now at (at + done) n old.reads mid.reads new.reads inv.once some call.reads in
     record {
       within = put_size _ _ _ _ inv.within size call.most.0;
-      once = subst (λ (end : ℕ). ReadOnce c.args.name.now at end old.reads new.reads) (let e : at + done + n ≡ at + (done + n) = omega arith in e) once;
+      once = subst (λ (end : ℕ). MovedOnce c.args.name.now at end old.reads new.reads) (let e : at + done + n ≡ at + (done + n) = omega arith in e) once;
       filled = filled_more _ _ _ _ _ _ _ _ _ _ _ inv.filled call inv.within size refl (ap (λ (n : ℕ). at + n) (sym c.loop-done.auto.to));
     }

@@ -4,8 +4,8 @@ use Rattle.std.specs.FinMap.{get}
 use Rattle.xmp_base.specs.Device.{bytes_of}
 use Rattle.xmp_base.specs.Memory.{files_of}
 use Rattle.xmp_base.specs.MemoryState.{DeskMemory}
-use Rattle.xmp_base.proofs.InMemory.{wanted_fails, len_is}
-use Rattle.xmp_base.proofs.InMemoryWrites.{known_file, write_done, write_fails, write_tears}
+use Rattle.xmp_base.proofs.InMemory.{wanted_fails, len_is, known_file}
+use Rattle.xmp_base.proofs.InMemoryWrites.{write_done, write_fails, write_tears}
 use Rattle.xmp_base.proofs.memory_desk.MemoryDeskDesk.write_at.Goals as goal
 
 pub tear-requires-clause-known : goal.tear-requires-clause-known
