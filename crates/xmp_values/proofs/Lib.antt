@@ -1,2 +1,3 @@
 pub mod CharacterTexts
 pub mod NameSets
+mod ValidHints

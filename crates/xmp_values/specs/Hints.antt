@@ -1,5 +1,7 @@
 -- Hints: namespaces, each with the prefix under which a writer may declare it.
-use Rattle.std.specs.Prelude.{◌≢◌, List, [], All, AllPairs}
+use Rattle.std.specs.Prelude.{ℕ, Bool, ◌≢◌, if◌then◌else◌, List, [], ◌∷◌, Option, Some, None, All, AllPairs}
+use Rattle.std.specs.List.{list_any}
+use Rattle.std.specs.Str.{bytes_eq}
 use Rattle.xmp_values.specs.declared.hints.Hint.{Hint}
 use Rattle.xmp_values.specs.Characters.{IsCharText, IsName}
 unfoldable pub use Rattle.xmp_values.specs.Spaces.{xmlns_space}
@@ -15,3 +17,17 @@ pub record IsValidHint (h : Hint) : Type 0 where
 pub record AreValid (hs : List Hint) : Type 0 where
   pub apart : AllPairs (λ g h. g.space ≢ h.space) hs
   pub each : All IsValidHint hs
+
+-- whether a hint is of the namespace
+abbrev pub has_space : List Hint → List ℕ → Bool
+has_space hs space = list_any (λ h. bytes_eq space h.space) hs
+
+-- the prefix of the first hint of a namespace
+abbrev pub prefix_in : List Hint → List ℕ → Option (List ℕ)
+prefix_in [] space = None
+prefix_in (h ∷ hs) space = if bytes_eq space h.space then Some h.prefix else prefix_in hs space
+
+-- the namespace of the first hint with a prefix
+abbrev pub space_in : List Hint → List ℕ → Option (List ℕ)
+space_in [] prefix = None
+space_in (h ∷ hs) prefix = if bytes_eq prefix h.prefix then Some h.space else space_in hs prefix

@@ -25,7 +25,7 @@ pub use characters::{
 };
 pub use digits::{Digits, is_hex_digit};
 pub use faults::{Fault, Part, Place};
-pub use hints::{Hint, Hints};
+pub use hints::{Hint, Hints, is_valid_hint};
 pub use memory::Memory;
 pub use names::{NameSet, Named, names_differ};
 pub use rules::Rule;

@@ -58,7 +58,7 @@ impl<'p> Text<'p> {
         }
     }
 
-    /// The same text, of which `again` copies no byte from now on.
+    /// The same text, of which `try_clone` copies no byte from now on.
     pub fn shared(self, alloc: Global) -> Result<Text<'p>, Memory>
         ensures { IfOk result (λ t. t ≡ self.entry) }
     {
@@ -69,9 +69,9 @@ impl<'p> Text<'p> {
         Ok(Text { kept })
     }
 
-    /// The same text again. One of the file is only borrowed again and one that is shared gets one
-    /// owner more; one of its own is copied.
-    pub fn again(&self, alloc: Global) -> Result<Text<'p>, Memory>
+    /// The same text again. A text of the file is only borrowed once more, and a shared one gets one
+    /// more owner; one that owns its bytes is copied.
+    pub fn try_clone(&self, alloc: Global) -> Result<Text<'p>, Memory>
         ensures { IfOk result (λ t. t ≡ self.now) }
     {
         match &self.kept {
@@ -81,6 +81,20 @@ impl<'p> Text<'p> {
                 kept: Kept::Shared(bytes.clone()?),
             }),
         }
+    }
+
+    /// `try_clone`, by its former name.
+    pub fn again(&self, alloc: Global) -> Result<Text<'p>, Memory>
+        ensures { IfOk result (λ t. t ≡ self.now) }
+    {
+        self.try_clone(alloc)
+    }
+
+    /// Whether the texts have the same bytes.
+    pub fn same_text(&self, other: &Text<'_>) -> bool
+        ensures { IsTrue result ↔ (self.now ≡ other.now) }
+    {
+        self.bytes() == other.bytes()
     }
 }
 
@@ -92,20 +106,34 @@ pub struct Name<'p> {
 }
 
 impl<'p> Name<'p> {
-    /// The same name again, its texts as by `Text::again`.
-    pub fn again(&self, alloc: Global) -> Result<Name<'p>, Memory>
+    /// The same name again, its texts as by `Text::try_clone`.
+    pub fn try_clone(&self, alloc: Global) -> Result<Name<'p>, Memory>
         ensures { IfOk result (λ n. n ≡ self.now) }
     {
-        let space = self.space.again(alloc)?;
-        let local = self.local.again(alloc)?;
+        let space = self.space.try_clone(alloc)?;
+        let local = self.local.try_clone(alloc)?;
         Ok(Name { space, local })
     }
 
-    /// Whether the names have one namespace and one local part.
-    pub fn is_same(&self, other: &Name<'_>) -> bool
+    /// `try_clone`, by its former name.
+    pub fn again(&self, alloc: Global) -> Result<Name<'p>, Memory>
+        ensures { IfOk result (λ n. n ≡ self.now) }
+    {
+        self.try_clone(alloc)
+    }
+
+    /// Whether the names have the same namespace and the same local part.
+    pub fn same_name(&self, other: &Name<'_>) -> bool
         ensures { IsTrue result ↔ (self.now ≡ other.now) }
     {
         // The local part first: it alone tells most names apart.
-        self.local.bytes() == other.local.bytes() && self.space.bytes() == other.space.bytes()
+        self.local.same_text(&other.local) && self.space.same_text(&other.space)
+    }
+
+    /// `same_name`, by its former name.
+    pub fn is_same(&self, other: &Name<'_>) -> bool
+        ensures { IsTrue result ↔ (self.now ≡ other.now) }
+    {
+        self.same_name(other)
     }
 }
