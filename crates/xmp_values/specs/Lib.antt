@@ -6,4 +6,5 @@ pub mod Lending
 pub mod Names
 pub mod Rules
 pub mod Spaces
+pub mod Stops
 pub mod formers

@@ -16,6 +16,7 @@ mod rules;
 mod sequence;
 mod spaces;
 mod span;
+mod stops;
 mod text;
 mod words;
 
@@ -32,5 +33,6 @@ pub use rules::Rule;
 pub use sequence::{Bytes, Sequence};
 pub use spaces::{is_rdf_space, is_xml_space, is_xmlns_space};
 pub use span::Span;
+pub use stops::{DeviceStop, FaultStop, FileStop, PlaceStop, RuleStop};
 pub use text::{Name, Text};
 pub use words::Words;
