@@ -1,3 +1,4 @@
 pub mod CharacterTexts
 pub mod NameSets
+pub mod TextPlaces
 mod ValidHints

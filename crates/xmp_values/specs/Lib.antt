@@ -7,4 +7,5 @@ pub mod Names
 pub mod Rules
 pub mod Spaces
 pub mod Stops
+pub mod Texts
 pub mod formers

@@ -18,6 +18,7 @@ mod spaces;
 mod span;
 mod stops;
 mod text;
+mod text_sets;
 mod words;
 
 pub use characters::{
@@ -35,4 +36,5 @@ pub use spaces::{is_rdf_space, is_xml_space, is_xmlns_space};
 pub use span::Span;
 pub use stops::{DeviceStop, FaultStop, FileStop, PlaceStop, RuleStop};
 pub use text::{Name, Text};
+pub use text_sets::TextSet;
 pub use words::Words;

@@ -1,0 +1,94 @@
+-- The places of texts in a list that grows at its end.
+use Rattle.std.proofs.Common.{◌≡◌, ℕ, ◌+◌, Bool, true, false, cond, ◌||◌, List, [], ◌∷◌, ◌++◌, length, Bor, Option, Some, None, refl, sym, ap, ◌∙◌, add-zero, zero-add, arith}
+use Rattle.std.specs.Prelude.{is_some, if◌then◌else◌}
+use Rattle.std.specs.List.{list_any, position_from}
+use Rattle.std.specs.Str.{bytes_eq}
+use Rattle.std.specs.declared.cmp.Ordering.{Ordering}
+use Rattle.std.specs.Ordering.{nat_cmp}
+use Rattle.std.specs.Cmp.Lexicographic.{slice_cmp}
+use Rattle.std.specs.BTreeMap.{BTreeMap, UpdatesBy}
+use Rattle.std.proofs.lemmas.Bool.Decides.{same_from_decides}
+use Rattle.std.proofs.lemmas.List.{map-append, length-map}
+use Rattle.std.proofs.lemmas.Map.Text.{btree_map_updates_str}
+use Rattle.std.proofs.lemmas.Slice.Eq.{bytes_eq-Decides}
+use Rattle.xmp_values.specs.Texts.{with_text, texts_of, text_in, place_in, HasPlaces}
+
+abbrev pub key_cmp : Bor (List ℕ) → Bor (List ℕ) → Ordering
+key_cmp x y = slice_cmp nat_cmp x.now y.now
+
+bytes_eq-sym : (xs ys : List ℕ) → bytes_eq xs ys ≡ bytes_eq ys xs
+bytes_eq-sym xs ys =
+    let there = bytes_eq-Decides xs ys in
+    let back = bytes_eq-Decides ys xs in
+    same_from_decides (bytes_eq xs ys) (bytes_eq ys xs) there (λ h. sym (back.0 h), λ e. back.1 (sym e))
+
+some_here : (b any : Bool) (at : ℕ) (rest : Option ℕ) → is_some rest ≡ any → is_some (cond b (Some at) rest) ≡ (b || any)
+some_here true any at rest e = refl
+some_here false any at rest e = e
+
+-- a text is there exactly where it has a place
+pub is_some-place : (p : List ℕ → Bool) (at : ℕ) (texts : List (List ℕ)) → is_some (position_from p at texts) ≡ list_any p texts
+is_some-place p at [] = refl
+is_some-place p at (x ∷ xs) = some_here (p x) (list_any p xs) at (position_from p (at + 1) xs) (is_some-place p (at + 1) xs)
+
+-- the first of two places that is there
+abbrev or_place : Option ℕ → Option ℕ → Option ℕ
+or_place (Some at) other = Some at
+or_place None other = other
+
+place_here : (b : Bool) (at : ℕ) (all rest other : Option ℕ) → all ≡ or_place rest other → cond b (Some at) all ≡ or_place (cond b (Some at) rest) other
+place_here true at all rest other e = refl
+place_here false at all rest other e = e
+
+-- the place in a list with one text more
+place_more : (p : List ℕ → Bool) (at : ℕ) (xs : List (List ℕ)) (y : List ℕ)
+    → position_from p at (xs ++ y ∷ []) ≡ or_place (position_from p at xs) (cond (p y) (Some (at + length xs)) None)
+place_more p at [] y = ap (λ n. cond (p y) (Some n) None) (sym (add-zero at))
+place_more p at (x ∷ xs) y =
+    let next : (at + 1) + length xs ≡ at + length (x ∷ xs) = omega arith in
+    place_here (p x) at (position_from p (at + 1) (xs ++ y ∷ [])) (position_from p (at + 1) xs) (cond (p y) (Some (at + length (x ∷ xs))) None)
+    (place_more p (at + 1) xs y ∙ ap (λ n. or_place (position_from p (at + 1) xs) (cond (p y) (Some n) None)) next)
+
+at_text : (b : Bool) (at : ℕ) (old : Option ℕ) → (b ≡ true → old ≡ None) → cond b (Some at) old ≡ or_place old (cond b (Some at) None)
+at_text true at old new = sym (ap (λ o. or_place o (Some at)) (new refl))
+at_text false at None new = refl
+at_text false at (Some place) new = refl
+
+-- a map with the place of one text more
+pub places_more : (key : Bor (List ℕ)) (keys more : List (Bor (List ℕ))) (place : ℕ) (old new : BTreeMap (Bor (List ℕ)) ℕ) → HasPlaces old (texts_of keys)
+    → place ≡ length keys → text_in old key.now ≡ None → UpdatesBy key_cmp (key_cmp key) old new (Some place) → more ≡ keys ++ key ∷ []
+    → HasPlaces new (texts_of more)
+places_more key keys more place old new has last absent updates put text =
+    let texts = texts_of keys in
+    let p = bytes_eq text in
+    let free : p key.now ≡ true → text_in old text ≡ None = λ h. ap (text_in old) ((bytes_eq-Decides text key.now).0 h) ∙ absent in
+    let at : place ≡ 0 + length texts = last ∙ sym (length-map keys (λ t. t.now)) ∙ sym (zero-add (length texts)) in
+    btree_map_updates_str key.now old new (Some place) updates text
+    ∙ ap (λ b. cond b (Some place) (text_in old text)) (bytes_eq-sym key.now text)
+    ∙ at_text (p key.now) place (text_in old text) free
+    ∙ ap (λ o. or_place o (cond (p key.now) (Some place) None)) (has text)
+    ∙ ap (λ n. or_place (position_from p 0 texts) (cond (p key.now) (Some n) None)) at
+    ∙ sym (place_more p 0 texts key.now)
+    ∙ ap (λ ts. place_in ts text) (sym (map-append (λ t. t.now) keys (key ∷ [])) ∙ ap texts_of (sym put))
+
+none_there : (o : Option ℕ) → is_some o ≡ false → o ≡ None
+none_there None e = refl
+none_there (Some place) e = absurd cc
+
+-- What a set tells of a text, by the map of its places.
+module _ (text : List ℕ) (places : BTreeMap (Bor (List ℕ)) ℕ) (keys : List (Bor (List ℕ))) (seen : List (List ℕ)) (view : texts_of keys ≡ seen) (has : HasPlaces places (texts_of keys)) where
+  pub is_there : (there : Bool) → there ≡ is_some (text_in places text) → there ≡ list_any (bytes_eq text) seen
+  is_there there e = e ∙ ap (λ place. is_some place) (has text) ∙ is_some-place (bytes_eq text) 0 (texts_of keys) ∙ ap (list_any (bytes_eq text)) view
+
+  pub isnt_there : (there : Bool) → there ≡ is_some (text_in places text) → there ≡ false → text_in places text ≡ None
+  isnt_there there e false_is = none_there (text_in places text) (sym e ∙ false_is)
+
+  -- the set with a text that is there, and with one that is new
+  pub with_there : (there : Bool) → there ≡ is_some (text_in places text) → there ≡ true → seen ≡ with_text seen text
+  with_there there e true_is = sym (ap (λ b. if b then seen else seen ++ text ∷ []) (sym (is_there there e) ∙ true_is))
+
+  pub with_new : (there : Bool) → there ≡ is_some (text_in places text) → there ≡ false → (key : Bor (List ℕ)) (more : List (Bor (List ℕ))) → key.now ≡ text
+      → more ≡ keys ++ key ∷ [] → texts_of more ≡ with_text seen text
+  with_new there e false_is key more keyed put =
+      ap texts_of put ∙ map-append (λ t. t.now) keys (key ∷ []) ∙ ap (λ ts. ts ++ key.now ∷ []) view ∙ ap (λ t. seen ++ t ∷ []) keyed
+      ∙ sym (ap (λ b. if b then seen else seen ++ text ∷ []) (sym (is_there there e) ∙ false_is))
