@@ -1,5 +1,5 @@
 -- One region more.
-use Rattle.std.proofs.Common.{◌≡◌, ℕ, ◌+◌, ◌≤◌, List, [], ◌∷◌, ◌++◌, length, map, drop, refl, sym, ap, subst, ◌∙◌, arith, append_assoc, Err, inl}
+use Rattle.std.proofs.Common.{◌≡◌, ℕ, ◌+◌, ◌<◌, ◌≤◌, List, [], ◌∷◌, ◌++◌, length, map, drop, refl, sym, ap, subst, ◌∙◌, arith, append_assoc, Err, inl}
 use Rattle.std.specs.Prelude.{flat_map}
 use Rattle.std.specs.List.{AllByRecursion}
 use Rattle.std.proofs.lemmas.List.{length-append, map_push, flat_map_more, take-append-drop}
@@ -13,7 +13,7 @@ use Rattle.jpeg_regions.specs.Jpeg.{Segment, Region, text, region, placed, IsInn
 use Rattle.jpeg_regions.specs.Reads.{FoundInner, FoundTail, region_of, payload_end}
 use Rattle.jpeg_regions.specs.Cutting.{Tiles, Underway, BeginsJpeg, CutAnswer, TakeAnswer}
 
-pub tiles_push : (at end : ℕ) (rs : List Region) (r : Region) → Tiles at end rs → r.range.start ≡ end → end ≤ r.payload.start
+pub tiles_push : (at end : ℕ) (rs : List Region) (r : Region) → Tiles at end rs → r.range.start ≡ end → end < r.payload.start
     → r.payload.start ≤ r.payload.end → r.payload.end ≤ r.range.end → Tiles at r.range.end (rs ++ r ∷ [])
 tiles_push at end [] r t a b c d = (a ∙ sym t, omega (arith, t), c, d, refl)
 tiles_push at end (x ∷ rs) r t a b c d = (t.0, t.1, t.2, t.3, tiles_push x.range.end end rs r t.4 a b c d)
@@ -30,7 +30,7 @@ within Alone place end h = (h, omega arith)
 within Tail place end h = (omega arith, h)
 
 -- a region more among the numbers
-pub tiles_found : (fs : List Found) (f : Found) (start : ℕ) → Tiles 2 start (map region_of fs) → f.start ≡ start → start ≤ f.payload → f.payload ≤ f.end
+pub tiles_found : (fs : List Found) (f : Found) (start : ℕ) → Tiles 2 start (map region_of fs) → f.start ≡ start → start < f.payload → f.payload ≤ f.end
     → Tiles 2 f.end (map region_of (fs ++ f ∷ []))
 tiles_found fs f start t a b c =
     subst (λ rs. Tiles 2 f.end rs) (sym (map_push region_of fs f))

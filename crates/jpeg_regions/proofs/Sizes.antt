@@ -1,18 +1,19 @@
 -- The length of a device's file, before it is cut.
-use Rattle.std.proofs.Common.{◌≡◌, ℕ, ◌<◌, ◌≤◌, IsTrue, List, [], ◌∷◌, length, refl, sym, ap, subst, ◌∙◌, arith, Ok, Err, Some, None}
+use Rattle.std.proofs.Common.{◌≡◌, ℕ, zero, suc, Bool, true, false, cond, ◌<◌, ◌≤◌, IsTrue, List, [], ◌∷◌, length, refl, sym, ap, subst, ◌∙◌, arith, inl, Ok, Err, Some, None}
 use Rattle.std.specs.declared.option.Option.{Option}
 use Rattle.std.specs.declared.result.Result.{Result}
 use Rattle.std.specs.FinMap.{get, contains_key}
-use Rattle.std.specs.Option.{unwrap_or}
-use Rattle.std.specs.Prelude.{IfOk}
+use Rattle.std.specs.Option.{unwrap_or, option_map}
+use Rattle.std.specs.Prelude.{IfOk, slice_get}
 use Rattle.xmp_base.proofs.Names.{get-insert_same, get-insert_other}
-use Rattle.xmp_base.specs.Device.{DeskState, Lens, SizeCall, Told, OthersKeep, bytes_of, is_known, len_of, size_of, Rose}
+use Rattle.xmp_base.specs.Device.{DeskState, Lens, SizeCall, Told, OthersKeep, bytes_of, is_known, len_of, size_of}
 use Rattle.xmp_values.specs.declared.rules.Rule.TheVariants.{NoTail}
 use Rattle.jpeg_regions.specs.declared.from_desk.CutStop.{CutStop}
-use Rattle.jpeg_regions.specs.declared.from_desk.CutStop.TheVariants.{Fault, Device}
-use Rattle.jpeg_regions.specs.Jpeg.{Region}
+use Rattle.jpeg_regions.specs.declared.from_desk.CutStop.TheVariants.{Fault, Device, Memory}
+use Rattle.jpeg_regions.specs.declared.reading.Found.{Found}
+use Rattle.jpeg_regions.specs.Jpeg.{Region, no_tail, mains, is_main}
 use Rattle.jpeg_regions.specs.Cutting.{BeginsJpeg, Tiles}
-use Rattle.jpeg_regions.specs.FromDesk.{CutCalls, CutFromAnswer, CutFromCall}
+use Rattle.jpeg_regions.specs.FromDesk.{CutCalls, CutFromCall, CutFromAnswer, CutKnownCall, StopsIn, AdvanceAnswer}
 use Rattle.xmp_base.proofs.Calls.{same_trans, counts_trans, rose_after}
 use Rattle.jpeg_regions.proofs.Near.{calls_none}
 
@@ -54,24 +55,49 @@ module _ (s t : DeskState) (name : List ℕ) (n : ℕ) (size : SizeCall s t name
     };
   }
 
-  pub cut_low : Told s.files (λ files. BeginsJpeg (bytes_of files name)) → n < 2 → CutFromCall s t name (Err (Fault NoTail n))
-  cut_low begins h = record {
-    calls = calls_sized t (calls_none t name);
-    others = others;
-    known = size_known;
-    told = λ files told. absurd (omega (arith, begins_two (bytes_of files name) (begins files told), told_size files told));
-    tiles = tt;
-    device = λ e. absurd (cc);
+  pub cut_done : (u : DeskState) (result : Result (List Region) CutStop) → CutKnownCall t u name n result → CutFromCall s u name result
+  cut_done u result call = let len : len_of u name ≡ n = ap (λ (m : Lens). unwrap_or (get m name) 0) call.lens ∙ size_len in record {
+    calls = calls_sized u call.calls;
+    others = λ q apart. ap (λ (m : Lens). get m q) call.lens ∙ others q apart;
+    known = subst (λ (m : Lens). IsTrue (contains_key m name)) (sym call.lens) size_known;
+    told = λ files told. call.told files (size.same.files ∙ told);
+    tiles = subst (λ (k : ℕ). IfOk result (λ regions. Tiles 2 k regions)) (sym len) call.tiles;
+    fault = inl (subst (λ (k : ℕ). StopsIn k result) (sym len) call.fault);
+    device = λ e. rose_after s.faults t.faults u.faults size.counts.faults (call.device e);
   }
 
-  pub cut_done : (u : DeskState) (result : Result (List Region) CutStop) → CutCalls t u name → u.lens ≡ t.lens
-      → Told t.files (λ files. CutFromAnswer (bytes_of files name) result) → IfOk result (λ regions. Tiles 2 n regions)
-      → (result ≡ Err Device → Rose t.faults u.faults) → CutFromCall s u name result
-  cut_done u result calls lens told tiles device = record {
-    calls = calls_sized u calls;
-    others = λ q apart. ap (λ (m : Lens). get m q) lens ∙ others q apart;
-    known = subst (λ (m : Lens). IsTrue (contains_key m name)) (sym lens) size_known;
-    told = λ files ftold. told files (size.same.files ∙ ftold);
-    tiles = subst (λ (k : ℕ). IfOk result (λ regions. Tiles 2 k regions)) (sym (ap (λ (m : Lens). unwrap_or (get m name) 0) lens ∙ size_len)) tiles;
-    device = λ e. rose_after s.faults t.faults u.faults size.counts.faults (device e);
-  }
+-- a file that is too short for its first marker
+pub cut_low : (s : DeskState) (name : List ℕ) (n : ℕ) → Told s.files (λ files. length (bytes_of files name) ≡ n) → Told s.files (λ files. BeginsJpeg (bytes_of files name)) → n < 2
+    → CutKnownCall s s name n (Err (Fault NoTail n))
+cut_low s name n full begins h = record {
+  calls = calls_none s name;
+  lens = refl;
+  told = λ files told. absurd (omega (arith, begins_two (bytes_of files name) (begins files told), full files told));
+  tiles = tt;
+  fault = no_tail refl;
+  device = λ e. absurd (cc);
+}
+
+-- what stops an advance stops the cut
+pub advance_stopped : (file : List ℕ) (found : List Found) (stop : CutStop) → AdvanceAnswer file found (Err stop) → CutFromAnswer file (Err stop)
+advance_stopped file found (Fault rule place) a = inl a
+advance_stopped file found Device a = tt
+advance_stopped file found Memory a = tt
+
+tiles_le : (at end : ℕ) (rs : List Region) → Tiles at end rs → at ≤ end
+tiles_le at end [] t = omega (arith, t)
+tiles_le at end (r ∷ rs) t = omega (arith, t.1, t.2, t.3, tiles_le r.range.end end rs t.4)
+
+-- a main region begins before the end of all
+pub main_within : (at end k place : ℕ) (rs : List Region) → Tiles at end rs → option_map (λ r. r.range.start) (slice_get (mains rs) k) ≡ Some place → place < end
+main_within at end k place [] t e = absurd (cc e)
+main_within at end k place (r ∷ rs) t e = by_kind (λ i. main_within r.range.end end i place rs t.4) (is_main r.kind) k e
+  where
+    later : at < r.range.end
+    later = omega (arith, t.1, t.2, t.3)
+
+    by_kind : ((i : ℕ) → option_map (λ r. r.range.start) (slice_get (mains rs) i) ≡ Some place → place < end)
+        → (b : Bool) (k : ℕ) → option_map (λ r. r.range.start) (slice_get (cond b (r ∷ mains rs) (mains rs)) k) ≡ Some place → place < end
+    by_kind rest true zero e = let is : r.range.start ≡ place = cc e in omega (arith, is, t.0, later, tiles_le r.range.end end rs t.4)
+    by_kind rest true (suc k) e = rest k e
+    by_kind rest false k e = rest k e

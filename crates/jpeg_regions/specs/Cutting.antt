@@ -1,5 +1,5 @@
 -- What is known of a file while it is cut.
-use Rattle.std.specs.Prelude.{◌≡◌, ℕ, ◌+◌, ◌≤◌, List, [], ◌∷◌, ◌++◌, length, take, drop, map, flat_map, Ok, Err, Some, None}
+use Rattle.std.specs.Prelude.{◌≡◌, ℕ, ◌+◌, ◌<◌, ◌≤◌, List, [], ◌∷◌, ◌++◌, length, take, drop, map, flat_map, Ok, Err, Some, None}
 use Rattle.std.specs.declared.option.Option.{Option}
 use Rattle.std.specs.declared.result.Result.{Result}
 use Rattle.std.specs.List.{AllByRecursion}
@@ -7,17 +7,17 @@ use Rattle.jpeg_regions.specs.declared.reading.Found.{Found}
 use Rattle.jpeg_regions.specs.declared.reading.Reading.{Reading}
 use Rattle.jpeg_regions.specs.declared.cutting.JpegStop.{JpegStop}
 use Rattle.jpeg_regions.specs.declared.cutting.JpegStop.TheVariants.{Fault, Memory}
-use Rattle.jpeg_regions.specs.Jpeg.{Segment, Region, text, placed, IsInner, Cuts, Broken, Jpeg, FirstFault}
+use Rattle.jpeg_regions.specs.Jpeg.{Segment, Region, text, placed, IsInner, Cuts, Broken, Jpeg, FirstFault, FaultIn}
 use Rattle.jpeg_regions.specs.Reads.{Reads, region_of, work}
 
 -- the kind of a file that can be cut: it begins with the marker of an image's start
 abbrev pub BeginsJpeg : List ℕ → Type 0
 BeginsJpeg file = take 2 file ≡ 0xFF ∷ 0xD8 ∷ []
 
--- the regions lie one after another from a place up to another, each with its payload inside
+-- the regions lie one after another from a place up to another, each with its payload behind its marker
 abbrev pub Tiles : ℕ → ℕ → List Region → Type 0
 Tiles at end [] = at ≡ end
-Tiles at end (r ∷ rs) = (r.range.start ≡ at) × (at ≤ r.payload.start) × (r.payload.start ≤ r.payload.end) × (r.payload.end ≤ r.range.end)
+Tiles at end (r ∷ rs) = (r.range.start ≡ at) × (at < r.payload.start) × (r.payload.start ≤ r.payload.end) × (r.payload.end ≤ r.range.end)
     × Tiles r.range.end end rs
 
 -- the list of the file, or its first fault
@@ -47,6 +47,12 @@ Numbers len found None = Tiles 2 len (map region_of found)
 abbrev pub left : Option Reading → ℕ
 left (Some reading) = 1 + work reading.len reading.at reading.wants
 left None = 0
+
+-- a fault of a file of `len` bytes, whatever these are
+abbrev pub IsFaultIn : {A : Type 0} → ℕ → Result A JpegStop → Type 0
+IsFaultIn len (Ok _) = Unit {0}
+IsFaultIn len (Err (Fault rule place)) = FaultIn len place rule
+IsFaultIn len (Err Memory) = Unit {0}
 
 abbrev pub TakeAnswer : List ℕ → List Found → Result (Option Reading) JpegStop → Type 0
 TakeAnswer file found (Ok next) = CutSoFar file found next

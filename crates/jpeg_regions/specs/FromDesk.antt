@@ -1,5 +1,5 @@
 -- What cutting a file of a device does and answers.
-use Rattle.std.specs.Prelude.{◌≡◌, ℕ, ◌+◌, ◌≤◌, min, List, ◌++◌, All, IfOk, IsTrue, slice_get, Ok, Err, Some}
+use Rattle.std.specs.Prelude.{◌≡◌, ◌⊎◌, ℕ, ◌+◌, ◌≤◌, min, List, ◌++◌, All, IfOk, IsTrue, slice_get, Ok, Err, Some}
 use Rattle.std.specs.declared.option.Option.{Option}
 use Rattle.std.specs.declared.result.Result.{Result}
 use Rattle.xmp_base.specs.Device.{DeskState, Told, Moved, Rose, SameFiles, NotFewer, OthersKeep, bytes_of, is_known, len_of}
@@ -7,7 +7,8 @@ use Rattle.jpeg_regions.specs.declared.reading.Found.{Found}
 use Rattle.jpeg_regions.specs.declared.reading.Reading.{Reading}
 use Rattle.jpeg_regions.specs.declared.from_desk.CutStop.{CutStop}
 use Rattle.jpeg_regions.specs.declared.from_desk.CutStop.TheVariants.{Fault, Device, Memory}
-use Rattle.jpeg_regions.specs.Jpeg.{Region, Cuts, Jpeg, Broken, FirstFault}
+use Rattle.xmp_values.specs.declared.rules.Rule.TheVariants.{NoTail}
+use Rattle.jpeg_regions.specs.Jpeg.{Region, Cuts, Jpeg, Broken, FirstFault, FaultIn}
 use Rattle.jpeg_regions.specs.Cutting.{CutSoFar, Tiles}
 
 -- the list of the file, or its first fault
@@ -43,6 +44,28 @@ pub record CutCalls (s t : DeskState) (name : List ℕ) : Type 0 where
   pub counts : NotFewer s t
   pub reads : ReadsNear s t name
 
+-- a fault of a file of `len` bytes, whatever the device tells of these
+abbrev pub StopsIn : {A : Type 0} → ℕ → Result A CutStop → Type 0
+StopsIn len (Ok _) = Unit {0}
+StopsIn len (Err (Fault rule place)) = FaultIn len place rule
+StopsIn len (Err Device) = Unit {0}
+StopsIn len (Err Memory) = Unit {0}
+
+-- The clauses of `cut_known`, for a file of `len` bytes.
+pub record CutKnownCall (s t : DeskState) (name : List ℕ) (len : ℕ) (result : Result (List Region) CutStop) : Type 0 where
+  pub calls : CutCalls s t name
+  pub lens : t.lens ≡ s.lens
+  pub told : Told s.files (λ files. CutFromAnswer (bytes_of files name) result)
+  -- the regions lie one after another in the file
+  pub tiles : IfOk result (λ regions. Tiles 2 len regions)
+  pub fault : StopsIn len result
+  pub device : result ≡ Err Device → Rose s.faults t.faults
+
+-- the file has gone: it has no byte left
+pub record IsGone (s t : DeskState) (result : Result (List Region) CutStop) : Type 0 where
+  pub is : result ≡ Err (Fault NoTail 0)
+  pub missed : Rose s.misses t.misses
+
 -- The clauses of `cut_from`, from the desk's state s to t.
 pub record CutFromCall (s t : DeskState) (name : List ℕ) (result : Result (List Region) CutStop) : Type 0 where
   pub calls : CutCalls s t name
@@ -51,4 +74,5 @@ pub record CutFromCall (s t : DeskState) (name : List ℕ) (result : Result (Lis
   pub told : Told s.files (λ files. CutFromAnswer (bytes_of files name) result)
   -- the regions lie one after another in the file
   pub tiles : IfOk result (λ regions. Tiles 2 (len_of t name) regions)
+  pub fault : StopsIn (len_of t name) result ⊎ IsGone s t result
   pub device : result ≡ Err Device → Rose s.faults t.faults

@@ -160,6 +160,15 @@ pub record SecondMain (file : List ℕ) (rule : Rule) (place : ℕ) : Type 0 whe
   pub named : rule ≡ TwoPackets
   pub second : option_map (λ r. r.range.start) (slice_get (mains regions) 1) ≡ Some place
 
+-- A fault's rule and place in a file of `len` bytes, whatever these are. A missing tail is told at
+-- the file's end, and all else at a byte of the file.
+pub data FaultIn (len place : ℕ) : Rule → Type 0 where
+  no_tail : place ≡ len → FaultIn len place NoTail
+  bad_marker : place < len → FaultIn len place BadMarker
+  bad_length : place < len → FaultIn len place BadLength
+  truncated : place < len → FaultIn len place Truncated
+  two_packets : place < len → FaultIn len place TwoPackets
+
 -- the first fault of a file that begins FF D8
 abbrev pub FirstFault : List ℕ → Rule → ℕ → Type 0
 FirstFault file rule place = Broken file rule place ⊎ SecondMain file rule place

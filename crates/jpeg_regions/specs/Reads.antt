@@ -12,7 +12,7 @@ use Rattle.jpeg_regions.specs.declared.reading.Reading.{Reading}
 use Rattle.jpeg_regions.specs.declared.reading.Step.{Step}
 use Rattle.jpeg_regions.specs.declared.reading.Step.TheVariants.{More, Inner, Last}
 use Rattle.jpeg_regions.specs.Markers.{class_of}
-use Rattle.jpeg_regions.specs.Jpeg.{Segment, Region, text, span, region, IsInner, IsTail, Breaks}
+use Rattle.jpeg_regions.specs.Jpeg.{Segment, Region, text, span, region, IsInner, IsTail, Breaks, FaultIn}
 
 -- behind the region's start stand FF bytes up to a place
 pub record AfterFill (file : List ℕ) (start at : ℕ) : Type 0 where
@@ -102,14 +102,14 @@ pub record GoesOn (len start at : ℕ) (wants : Wants) (next : Reading) : Type 0
 
 pub record Finds (len start at : ℕ) (wants : Wants) (found : Found) : Type 0 where
   pub same_start : found.start ≡ start
-  pub order : start ≤ found.payload
+  pub order : start < found.payload
   pub payload : found.payload ≤ found.end
   pub end : found.end ≤ len
   pub less : 2 * (len - found.end) < work len at wants
 
 pub record Ends (len start : ℕ) (found : Found) : Type 0 where
   pub same_start : found.start ≡ start
-  pub order : start ≤ found.payload
+  pub order : start < found.payload
   pub payload : found.payload ≤ found.end
   pub end : found.end ≡ len
 
@@ -117,4 +117,4 @@ abbrev pub Progress : ℕ → ℕ → ℕ → Wants → Result Step Rule → Typ
 Progress len start at wants (Ok (More next)) = GoesOn len start at wants next
 Progress len start at wants (Ok (Inner found)) = Finds len start at wants found
 Progress len start at wants (Ok (Last found)) = Ends len start found
-Progress len start at wants (Err rule) = Unit {0}
+Progress len start at wants (Err rule) = FaultIn len start rule

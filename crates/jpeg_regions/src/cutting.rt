@@ -1,7 +1,7 @@
 //! Cutting a file into its regions.
-ghost use Rattle.std.specs.Prelude.{◌≡◌, ℕ, ◌+◌, ◌-◌, ◌≤◌, ◌<◌, ◌⊎◌, [], ◌∷◌, List, length, take, drop, IfOk};
+ghost use Rattle.std.specs.Prelude.{◌≡◌, ℕ, ◌+◌, ◌-◌, ◌≤◌, ◌<◌, ◌⊎◌, [], ◌∷◌, List, length, take, drop, min, IfOk};
 ghost use Rattle.jpeg_regions.specs.Wanted.{count_of};
-ghost use Rattle.jpeg_regions.specs.Cutting.{BeginsJpeg, CutAnswer, CutSoFar, Numbers, TakeAnswer, Tiles, left};
+ghost use Rattle.jpeg_regions.specs.Cutting.{BeginsJpeg, CutAnswer, CutSoFar, IsFaultIn, Numbers, TakeAnswer, Tiles, left};
 
 use crate::list::Regions;
 use crate::reading::{Found, Reading, Step};
@@ -23,10 +23,11 @@ pub fn take(
     reading: Reading,
     piece: &[u8],
 ) -> Result<Option<Reading>, JpegStop>
-    requires piece { length piece.now ≤ reading.len - reading.at }
+    requires piece { length piece.now ≡ min (count_of reading.wants) (reading.len - reading.at) }
     requires numbers { Numbers reading.len found.old.items (Some reading) }
     ensures less { IfOk result (λ next. left next < left (Some reading)) }
     ensures numbers { IfOk result (λ next. Numbers reading.len found.new.items next) }
+    ensures fault { IsFaultIn reading.len result }
     ensures answer { (file : List ℕ) → length file ≡ reading.len → CutSoFar file found.old.items (Some reading)
         → piece.now ≡ take (count_of reading.wants) (drop reading.at file) → TakeAnswer file found.new.items result }
 {

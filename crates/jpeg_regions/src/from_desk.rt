@@ -5,7 +5,7 @@ ghost use Rattle.xmp_base.specs.Windows.{ReadInside};
 ghost use Rattle.jpeg_regions.specs.Jpeg.{Cuts};
 ghost use Rattle.jpeg_regions.specs.Wanted.{count_of};
 ghost use Rattle.jpeg_regions.specs.Cutting.{BeginsJpeg, CutSoFar, Numbers, Tiles, left};
-ghost use Rattle.jpeg_regions.specs.FromDesk.{AdvanceAnswer, CutCalls, CutFromAnswer, CutFromCall};
+ghost use Rattle.jpeg_regions.specs.FromDesk.{AdvanceAnswer, CutCalls, CutFromCall, CutKnownCall, StopsIn};
 
 use crate::cutting::{JpegStop, take};
 use crate::list::Regions;
@@ -41,6 +41,7 @@ fn advance<D: Desk>(
     ensures numbers { IfOk result (λ next. Numbers reading.len found.new.items next) }
     ensures answer { Told (D.state desk.old).files (λ files. length (bytes_of files name.now) ≡ reading.len
         → CutSoFar (bytes_of files name.now) found.old.items (Some reading) → AdvanceAnswer (bytes_of files name.now) found.new.items result) }
+    ensures fault { StopsIn reading.len result }
     ensures device { result ≡ Err CutStop.Device → Rose (D.state desk.old).faults (D.state desk.new).faults }
 {
     let wanted = reading.wanted();
@@ -54,33 +55,6 @@ fn advance<D: Desk>(
         Ok(next) => Ok(next),
         Err(JpegStop::Fault(rule, place)) => Err(CutStop::Fault(rule, place)),
         Err(JpegStop::Memory) => Err(CutStop::Memory),
-    }
-}
-
-/// The regions of a file of `len` bytes.
-fn cut_known<D: Desk>(alloc: Global, desk: &mut D, name: &str, len: u64) -> Result<Regions, CutStop>
-    requires known { IsTrue (is_known (D.state desk.old) name.now) }
-    requires len { len_of (D.state desk.old) name.now ≡ len }
-    requires room { 2 ≤ len }
-    requires told { Told (D.state desk.old).files (λ files. length (bytes_of files name.now) ≡ len) }
-    requires begins { Told (D.state desk.old).files (λ files. BeginsJpeg (bytes_of files name.now)) }
-    ensures calls { CutCalls (D.state desk.old) (D.state desk.new) name.now }
-    ensures lens { (D.state desk.new).lens ≡ (D.state desk.old).lens }
-    ensures told { Told (D.state desk.old).files (λ files. CutFromAnswer (bytes_of files name.now) result) }
-    ensures tiles { IfOk result (λ regions. Tiles 2 len regions) }
-    ensures device { result ≡ Err CutStop.Device → Rose (D.state desk.old).faults (D.state desk.new).faults }
-{
-    let mut found = Vec::new(alloc);
-    let mut next = Some(Reading::new(len, 2));
-    while let Some(reading) = next {
-        next = match advance(desk, name, &mut found, reading) {
-            Ok(next) => next,
-            Err(stop) => return Err(stop),
-        };
-    }
-    match Regions::of(found) {
-        Ok(regions) => Ok(regions),
-        Err((rule, place)) => Err(CutStop::Fault(rule, place)),
     }
 }
 
@@ -98,9 +72,37 @@ impl Regions {
             Err(SizeStop::Absent) => return Err(CutStop::Fault(Rule::NoTail, 0)),
             Err(SizeStop::Failed) => return Err(CutStop::Device),
         };
+        Regions::cut_known(alloc, desk, name, len)
+    }
+
+    /// The regions of a file of a device that has `len` bytes, as `cut_from` gives them. The device
+    /// isn't asked for the length again.
+    pub fn cut_known<D: Desk>(
+        alloc: Global,
+        desk: &mut D,
+        name: &str,
+        len: u64,
+    ) -> Result<Regions, CutStop>
+        requires known { IsTrue (is_known (D.state desk.old) name.now) }
+        requires len { len_of (D.state desk.old) name.now ≡ len }
+        requires told { Told (D.state desk.old).files (λ files. length (bytes_of files name.now) ≡ len) }
+        requires begins { Told (D.state desk.old).files (λ files. BeginsJpeg (bytes_of files name.now)) }
+        ensures call { CutKnownCall (D.state desk.old) (D.state desk.new) name.now len result }
+    {
         if len < 2 {
             return Err(CutStop::Fault(Rule::NoTail, len));
         }
-        cut_known(alloc, desk, name, len)
+        let mut found = Vec::new(alloc);
+        let mut next = Some(Reading::new(len, 2));
+        while let Some(reading) = next {
+            next = match advance(desk, name, &mut found, reading) {
+                Ok(next) => next,
+                Err(stop) => return Err(stop),
+            };
+        }
+        match Regions::of(found) {
+            Ok(regions) => Ok(regions),
+            Err((rule, place)) => Err(CutStop::Fault(rule, place)),
+        }
     }
 }

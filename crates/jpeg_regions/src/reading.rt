@@ -4,6 +4,7 @@
 //! stand behind a tail's marker, so it can be run over a device that must not read a tail.
 ghost use Rattle.std.specs.Prelude.{◌≡◌, ℕ, ◌+◌, ◌-◌, ◌≤◌, ◌<◌, List, length, take, drop, min};
 ghost use Rattle.jpeg_regions.specs.Wanted.{count_of, least_of, payload_of};
+ghost use Rattle.jpeg_regions.specs.declared.reading.Wants.TheVariants.{Start};
 
 use crate::kind::{RegionKind, front_len, kind_of};
 use crate::marker::{Class, class_of};
@@ -59,6 +60,7 @@ pub struct Reading {
     pub wants: Wants,
     ghost order: { start + least_of wants ≤ at },
     ghost room: { at + payload_of wants ≤ len },
+    ghost first: { wants ≡ Start → at ≡ start },
 }
 
 /// What the wanted bytes lead to.
@@ -111,7 +113,7 @@ impl Reading {
 
     /// Goes on with the bytes that were wanted.
     pub fn step(self, piece: &[u8]) -> Result<Step, Rule>
-        requires { length piece.now ≤ self.len - self.at }
+        requires { length piece.now ≡ min (count_of self.wants) (self.len - self.at) }
         ensures progress { Progress self.len self.start self.at self.wants result }
         ensures steps { (file : List ℕ) → length file ≡ self.len → Reads file self.start self.at self.wants
             → piece.now ≡ take (count_of self.wants) (drop self.at file) → Steps file self.start result }
@@ -127,7 +129,8 @@ impl Reading {
 
     /// The first two bytes of a region.
     fn begin(self, piece: &[u8]) -> Result<Step, Rule>
-        requires { length piece.now ≤ self.len - self.at }
+        requires piece { length piece.now ≡ min 2 (self.len - self.at) }
+        requires first { self.at ≡ self.start }
         ensures progress { Progress self.len self.start self.at Wants.Start result }
         ensures steps { (file : List ℕ) → length file ≡ self.len → self.at ≡ self.start
             → piece.now ≡ take 2 (drop self.at file) → Steps file self.start result }
@@ -164,7 +167,8 @@ impl Reading {
 
     /// The two bytes of a length, which counts itself.
     fn measure(self, marker: u8, piece: &[u8]) -> Result<Step, Rule>
-        requires { length piece.now ≤ self.len - self.at }
+        requires piece { length piece.now ≤ self.len - self.at }
+        requires order { self.start < self.at }
         ensures progress { Progress self.len self.start self.at (Wants.Length marker) result }
         ensures steps { (file : List ℕ) → length file ≡ self.len → AfterMarker file self.start self.at marker
             → piece.now ≡ take 2 (drop self.at file) → Steps file self.start result }
@@ -185,7 +189,8 @@ impl Reading {
 
     /// The beginning of a payload of `len` bytes.
     fn complete(self, marker: u8, len: u16, piece: &[u8]) -> Found
-        requires { self.at + len ≤ self.len }
+        requires room { self.at + len ≤ self.len }
+        requires order { self.start < self.at }
         ensures progress { Finds self.len self.start self.at (Wants.Payload marker len) result }
         ensures found { (file : List ℕ) → length file ≡ self.len → AfterLength file self.start self.at marker len
             → piece.now ≡ take (min (front_len marker) len) (drop self.at file) → FoundInner file result }
@@ -196,6 +201,7 @@ impl Reading {
     fn with(self, at: u64, wants: Wants) -> Reading
         requires order { self.start + least_of wants ≤ at }
         requires room { at + payload_of wants ≤ self.len }
+        requires first { wants ≡ Start → at ≡ self.start }
         ensures len { result.len ≡ self.len }
         ensures start { result.start ≡ self.start }
         ensures at { result.at ≡ at }

@@ -1,4 +1,5 @@
-use Rattle.std.proofs.Common.{◌∙◌, sym}
+use Rattle.std.proofs.Common.{◌∙◌, sym, arith}
+use Rattle.jpeg_regions.specs.Jpeg.{bad_marker}
 use Rattle.jpeg_regions.proofs.Found.{fill_more, refused_here, single_found, tail_found}
 use Rattle.jpeg_regions.proofs.reading.Reading.mark.Goals as goal
 
@@ -13,3 +14,6 @@ returns-in-Single-clause-steps c = λ file full a e. rw c.find.ensures (single_f
 
 pub returns-in-Last-clause-steps : goal.returns-in-Last-clause-steps
 returns-in-Last-clause-steps c = λ file full a e. rw c.find-in-Last.ensures (tail_found _ _ _ _ a e _ full c.requires.within (sym c.class_of.ensures ∙ c.in-Last.is))
+
+pub returns-in-Refused-clause-progress : goal.returns-in-Refused-clause-progress
+returns-in-Refused-clause-progress c = bad_marker (omega arith)

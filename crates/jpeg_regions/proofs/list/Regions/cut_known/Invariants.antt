@@ -2,7 +2,7 @@ use Rattle.std.proofs.Common.{◌≡◌}
 use Rattle.xmp_base.specs.Device.{Told, bytes_of}
 use Rattle.jpeg_regions.specs.Cutting.{CutSoFar, Numbers, left}
 use Rattle.jpeg_regions.specs.FromDesk.{CutCalls}
-use Rattle.jpeg_regions.proofs.from_desk.cut_known.Given as goal
+use Rattle.jpeg_regions.proofs.list.Regions.cut_known.Given as goal
 
 abbrev pub invariant-loop-next : goal.invariant-loop-next
 invariant-loop-next g l =
