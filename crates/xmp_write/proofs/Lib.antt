@@ -11,3 +11,8 @@ pub mod ValidHints
 pub mod FreeNumbers
 pub mod ShownRuns
 pub mod Worked
+pub mod OwnNames
+pub mod DeclaredSpaces
+pub mod KnownRows
+pub mod KeptPrefixes
+pub mod PrefixLaws

@@ -1,6 +1,7 @@
 pub mod Packets
 pub mod Written
 pub mod Prefixes
+pub mod PrefixLaws
 pub mod Text
 pub mod WrittenPackets
 pub mod Lines

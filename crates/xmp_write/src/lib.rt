@@ -18,7 +18,7 @@ mod uses;
 mod valid_hints;
 
 pub use forms::Form;
-pub use laws::the_least_free_number;
+pub use laws::{prefixes_are_told_apart, the_least_free_number};
 pub use listing::lines;
 pub use prefixes::Prefixes;
 pub use xmp_packets::{Packet, PacketInfo};
