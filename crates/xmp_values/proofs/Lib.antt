@@ -1,4 +1,5 @@
 pub mod CharacterTexts
+pub mod HintMaps
 pub mod NameSets
 pub mod TextPlaces
 mod ValidHints

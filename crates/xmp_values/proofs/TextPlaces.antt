@@ -16,7 +16,7 @@ use Rattle.xmp_values.specs.Texts.{with_text, texts_of, text_in, place_in, HasPl
 abbrev pub key_cmp : Bor (List ℕ) → Bor (List ℕ) → Ordering
 key_cmp x y = slice_cmp nat_cmp x.now y.now
 
-bytes_eq-sym : (xs ys : List ℕ) → bytes_eq xs ys ≡ bytes_eq ys xs
+pub bytes_eq-sym : (xs ys : List ℕ) → bytes_eq xs ys ≡ bytes_eq ys xs
 bytes_eq-sym xs ys =
     let there = bytes_eq-Decides xs ys in
     let back = bytes_eq-Decides ys xs in

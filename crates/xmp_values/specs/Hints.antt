@@ -31,3 +31,7 @@ prefix_in (h ∷ hs) space = if bytes_eq space h.space then Some h.prefix else p
 abbrev pub space_in : List Hint → List ℕ → Option (List ℕ)
 space_in [] prefix = None
 space_in (h ∷ hs) prefix = if bytes_eq prefix h.prefix then Some h.space else space_in hs prefix
+
+-- whether a hint has the prefix
+abbrev pub has_prefix : List Hint → List ℕ → Bool
+has_prefix hs prefix = list_any (λ h. bytes_eq prefix h.prefix) hs

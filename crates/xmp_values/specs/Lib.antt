@@ -1,5 +1,6 @@
 pub mod Characters
 pub mod Digits
+pub mod HintMaps
 pub mod Hints
 pub mod Kept
 pub mod Lending

@@ -9,6 +9,7 @@
 mod characters;
 mod digits;
 mod faults;
+mod hint_maps;
 mod hints;
 mod memory;
 mod names;
@@ -27,6 +28,7 @@ pub use characters::{
 };
 pub use digits::{Digits, is_hex_digit};
 pub use faults::{Fault, Part, Place};
+pub use hint_maps::HintMap;
 pub use hints::{Hint, Hints, is_valid_hint};
 pub use memory::Memory;
 pub use names::{NameSet, Named, names_differ};
