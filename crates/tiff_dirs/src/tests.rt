@@ -77,48 +77,142 @@ impl Body {
     }
 }
 
-/// The numbers of directories and pictures, or the fault with its place.
-fn walked(alloc: Global, body: &Body) -> Result<Result<(usize, usize), (Rule, u64)>, Memory> {
-    let file = body.file(alloc)?;
-    match Dirs::walk(alloc, file.as_slice()) {
-        Ok(dirs) => Ok(Ok((dirs.directories(), dirs.pictures()))),
-        Err(TiffStop::Fault(rule, place, _, _)) => Ok(Err((rule, place))),
+/// What a walk gives: the numbers of directories, of entries of the first and of pictures, or the
+/// fault.
+type Walked = Result<(usize, usize, usize), (Rule, u64, u64, u64)>;
+
+/// Walks a file that begins with these four bytes.
+fn walked(alloc: Global, file: &[u8]) -> Result<Walked, Memory>
+    requires { BeginsTiff file.now }
+{
+    match Dirs::walk(alloc, file) {
+        Ok(dirs) => {
+            let count = dirs.directories();
+            let entries = if count == 0 { 0 } else { dirs.entries(0) };
+            Ok(Ok((count, entries, dirs.pictures())))
+        }
+        Err(TiffStop::Fault(rule, place, x, y)) => Ok(Err((rule, place, x, y))),
         Err(TiffStop::Memory) => Err(Memory),
     }
 }
 
-/// A directory of two entries: a strip of four bytes behind it, and its length.
-fn one_strip(alloc: Global, form: (bool, bool), next: u64) -> Result<Body, AllocError> {
+/// Walks a file of one directory of these entries, with zeros behind it.
+fn walk_one(
+    alloc: Global,
+    form: (bool, bool),
+    entries: &[(u64, u64, u64, u64)],
+    next: u64,
+    zeros: u32,
+) -> Result<Walked, Memory>
+    requires { zeros ≤ 100 }
+{
     let (wide, _) = form;
-    let (first, strip, code) = if wide { (16, 72, 16) } else { (8, 38, 4) };
-    let mut body = Body::new(alloc, form, first)?;
-    body.count(2)?;
-    body.entry(273, code, 1, strip)?;
-    body.entry(279, code, 1, 4)?;
-    body.word(next)?;
-    body.put(0, 4)?;
-    Ok(body)
-}
-
-#[test]
-fn both_layouts(rt: HostRuntime) -> Result<(), Fail> {
-    for form in FORMS {
-        let body = one_strip(rt.alloc(), form, 0)?;
-        assert_eq!(rt; walked(rt.alloc(), &body)?, Ok((1, 1)));
+    let mut body = Body::new(alloc, form, if wide { 16 } else { 8 })?;
+    body.count(entries.len() as u64)?;
+    for (tag, code, count, value) in entries {
+        body.entry(*tag, *code, *count, *value)?;
     }
-    Ok(())
+    body.word(next)?;
+    for _ in 0..zeros {
+        body.put(0, 1)?;
+    }
+    let file = body.file(alloc)?;
+    walked(alloc, file.as_slice())
 }
 
 #[test]
-fn a_directory_twice(rt: HostRuntime) -> Result<(), Fail> {
+fn faults_in_their_order(rt: HostRuntime) -> Result<(), Fail> {
     for form in FORMS {
         let (wide, _) = form;
-        let first = if wide { 16 } else { 8 };
-        let body = one_strip(rt.alloc(), form, first)?;
-        assert_eq!(rt;
-            walked(rt.alloc(), &body)?,
-            Err((Rule::DirectoryTwice, first))
-        );
+        // The first entry's place, the size of an entry, and the ends of directories of two and
+        // of three entries.
+        let (first, entry, two, three, long) = if wide {
+            (24, 20, 72, 92, 16)
+        } else {
+            (10, 12, 38, 50, 4)
+        };
+        let none = |rule: Rule, place: u64| -> Walked { Err((rule, place, 0, 0)) };
+        let cases: [(&[(u64, u64, u64, u64)], u64, u32, Walked); 12] = [
+            (
+                &[(273, long, 1, two), (279, long, 1, 4)],
+                0,
+                4,
+                Ok((1, 2, 1)),
+            ),
+            (
+                &[(273, long, 1, two), (279, long, 1, 0)],
+                0,
+                4,
+                Ok((1, 2, 0)),
+            ),
+            (
+                &[(273, long, 1, 99), (279, long, 2, two)],
+                0,
+                16,
+                Ok((1, 2, 0)),
+            ),
+            (
+                &[(273, long, 1, two), (279, long, 1, 5)],
+                0,
+                4,
+                none(Rule::RegionOut, first),
+            ),
+            (
+                &[(256, 1, 1, 0), (257, 1, 9, two)],
+                0,
+                8,
+                none(Rule::ValueOut, first + entry),
+            ),
+            (
+                &[(256, 9, 1, 0), (700, long, 1, 0)],
+                0,
+                0,
+                none(Rule::PacketType, first + entry),
+            ),
+            (
+                &[(700, 1, 1, 0), (700, 7, 1, 0)],
+                0,
+                0,
+                none(Rule::TwoPackets, first + entry),
+            ),
+            (
+                &[(330, long, 1, 3), (256, 1, 1, 0)],
+                5,
+                0,
+                none(Rule::DirectoryOut, 3),
+            ),
+            (
+                &[(34665, long, 1, 0), (256, 1, 1, 0)],
+                0,
+                0,
+                none(Rule::DirectoryOut, 0),
+            ),
+            (
+                &[(256, 1, 1, 0), (256, 1, 1, 0)],
+                first,
+                0,
+                none(Rule::DirectoryOut, first),
+            ),
+            (
+                &[
+                    (273, long, 1, three),
+                    (279, long, 1, 4),
+                    (700, 1, 9, three + 2),
+                ],
+                0,
+                11,
+                Err((Rule::Overlap, three + 2, three, 4)),
+            ),
+            (
+                &[(273, long, 1, 0), (279, long, 1, 1), (34377, 7, 9, three)],
+                0,
+                9,
+                Ok((1, 3, 1)),
+            ),
+        ];
+        for (entries, next, zeros, expected) in cases {
+            assert_eq!(rt; walk_one(rt.alloc(), form, entries, next, zeros)?, expected);
+        }
     }
     Ok(())
 }
