@@ -9,7 +9,7 @@ use Rattle.std.proofs.lemmas.List.Quantifiers.{all_pairs_remove}
 use Rattle.xmp_tree.specs.declared.nested.Member.{Member}
 use Rattle.xmp_tree.specs.Wf.{name_of, NamesDiffer, IsOwnSpace, IsWfMember, member_depth, AreWithin, AreFields, AreQualifiers, IsQualifier, AreWellFormed, AreWellFormedQualifiers, lang_name}
 
--- Two lists, one behind the other.
+-- Two lists, one after the other.
 module _ (R : Member → Member → Type 0) (xs ys : List Member) where
   pairs_append : AllPairs R xs → AllPairs R ys →
       ((i j : ℕ) (d : Member) → i < length xs → j < length ys → R (get_or xs i d) (get_or ys j d)) → AllPairs R (xs ++ ys)
@@ -47,7 +47,7 @@ pub formed_append : (room : ℕ) (xs ys : List Member) → AreWellFormed room xs
 formed_append room xs ys a b parted =
     record { within = within_append room xs ys a.within b.within; fields = fields_append xs ys a.fields b.fields parted }
 
--- qualifiers behind a first one, which may be `xml:lang`
+-- qualifiers after a first one, which may be `xml:lang`
 pub quals_front : (m : Member) (ms : List Member) → IsQualifier m → AreQualifiers ms → AreParted (m ∷ []) ms →
     All (λ n. name_of n ≡ lang_name → ⊥) ms → AreQualifiers (m ∷ ms)
 quals_front m ms qualifier old parted none = record {

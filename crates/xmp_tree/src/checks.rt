@@ -12,7 +12,7 @@ use xmp_values::{Memory, Name, Text, is_char_text};
 pub fn is_among(members: &[Member<'_>], name: &Name<'_>) -> bool
     ensures { IsTrue result ↔ Any (λ m. name_of m ≡ name.now) members.now }
 {
-    members.iter().any(|member| member.name.is_same(name))
+    members.iter().any(|member| member.name.same_name(name))
 }
 
 /// Whether the value is a simple text with no qualifier.

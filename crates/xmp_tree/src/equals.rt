@@ -2,13 +2,6 @@
 ghost use Rattle.std.specs.Prelude.{◌≡◌, ◌↔◌, IsTrue};
 
 use crate::nested::{Kind, Member, Shape, Value};
-use xmp_values::Text;
-
-pub fn equal_texts(a: &Text<'_>, b: &Text<'_>) -> bool
-    ensures { IsTrue result ↔ (a.now ≡ b.now) }
-{
-    a.bytes() == b.bytes()
-}
 
 fn equal_kinds(a: Kind, b: Kind) -> bool
     ensures { IsTrue result ↔ (a ≡ b) }
@@ -30,8 +23,8 @@ fn equal_shapes(a: &Shape<'_>, b: &Shape<'_>) -> bool
     ensures { IsTrue result ↔ (a.now ≡ b.now) }
 {
     match (a, b) {
-        (Shape::Simple(s), Shape::Simple(t)) => equal_texts(s, t),
-        (Shape::Uri(s), Shape::Uri(t)) => equal_texts(s, t),
+        (Shape::Simple(s), Shape::Simple(t)) => s.same_text(t),
+        (Shape::Uri(s), Shape::Uri(t)) => s.same_text(t),
         (Shape::Struct(s), Shape::Struct(t)) => equal_members(s.as_slice(), t.as_slice()),
         (Shape::Array(j, s), Shape::Array(k, t)) => {
             equal_kinds(*j, *k) && equal_items(s.as_slice(), t.as_slice())
@@ -44,7 +37,7 @@ fn equal_shapes(a: &Shape<'_>, b: &Shape<'_>) -> bool
 fn equal_members_at(a: &Member<'_>, b: &Member<'_>) -> bool
     ensures { IsTrue result ↔ (a.now ≡ b.now) }
 {
-    a.name.is_same(&b.name) && equal_values(&a.value, &b.value)
+    a.name.same_name(&b.name) && equal_values(&a.value, &b.value)
 }
 
 /// Whether two lists have equal names and values in the same order.

@@ -5,20 +5,21 @@ ghost use Rattle.xmp_tree.specs.Wf.{NamesDiffer, IsNamed, IsOwnSpace, lang_name,
 use crate::nested::Member;
 use std::alloc::Global;
 use xmp_values::{
-    Memory, Name, is_char_text, is_name, is_rdf_space, is_xml_space, is_xmlns_space, names_differ,
+    Memory, Name, is_char_text, is_name, is_rdf_namespace, is_xml_namespace, is_xmlns_namespace,
+    names_differ,
 };
 
 /// Whether the namespace is one that properties and fields may have.
 pub fn is_own_space(space: &[u8]) -> bool
     ensures { IsTrue result ↔ IsOwnSpace space.now }
 {
-    if space.is_empty() || is_rdf_space(space) {
+    if space.is_empty() || is_rdf_namespace(space) {
         return false;
     }
-    if is_xml_space(space) {
+    if is_xml_namespace(space) {
         return false;
     }
-    !is_xmlns_space(space)
+    !is_xmlns_namespace(space)
 }
 
 /// Whether the namespace is made of Chars and the local part is a name without colon.
@@ -33,7 +34,7 @@ pub fn is_named(name: &Name<'_>) -> bool
 pub fn is_lang(name: &Name<'_>) -> bool
     ensures { IsTrue result ↔ (name.now ≡ lang_name) }
 {
-    name.local.bytes() == b"lang".as_slice() && is_xml_space(name.space.bytes())
+    name.local.bytes() == b"lang".as_slice() && is_xml_namespace(name.space.bytes())
 }
 
 /// Whether the name is `rdf:type`.
@@ -41,7 +42,7 @@ pub fn is_lang(name: &Name<'_>) -> bool
 pub fn is_type(name: &Name<'_>) -> bool
     ensures { IsTrue result ↔ (name.now ≡ type_name) }
 {
-    name.local.bytes() == b"type".as_slice() && is_rdf_space(name.space.bytes())
+    name.local.bytes() == b"type".as_slice() && is_rdf_namespace(name.space.bytes())
 }
 
 /// Whether the name is `xmpNote:HasExtendedXMP`.

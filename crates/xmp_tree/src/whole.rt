@@ -2,7 +2,7 @@ ghost use Rattle.std.specs.Prelude.{◌≡◌, [], ◌↔◌, IsTrue, IfOk, Matc
 
 use crate::checks::is_well_formed;
 use crate::copies::{copy_members, copy_text};
-use crate::equals::{equal_members, equal_texts};
+use crate::equals::equal_members;
 use crate::nested::Members;
 use std::alloc::Global;
 use std::marker::Model;
@@ -63,7 +63,7 @@ pub fn empty<'p>(alloc: Global) -> Tree<'p>
 pub fn equal(a: &Tree<'_>, b: &Tree<'_>) -> bool
     ensures { IsTrue result ↔ (a.now ≡ b.now) }
 {
-    equal_texts(&a.about, &b.about) && equal_members(a.props.as_slice(), b.props.as_slice())
+    a.about.same_text(&b.about) && equal_members(a.props.as_slice(), b.props.as_slice())
 }
 
 /// An equal tree that owns all its texts.

@@ -52,6 +52,6 @@ copied_is : (o : Option (Bor (List ℕ))) → is_some o ≡ is_some (option_copi
 copied_is (Some space) = refl
 copied_is None = refl
 
--- the same of a namespace behind a reference
+-- the same of a namespace that a reference points to
 pub is_had : (o : Option (Bor (List ℕ))) (hs : List Hint) (prefix : List ℕ) → option_copied o ≡ space_in hs prefix → is_some o ≡ has_prefix hs prefix
 is_had o hs prefix e = copied_is o ∙ ap (λ o. is_some o) e ∙ prefix_is_had hs prefix

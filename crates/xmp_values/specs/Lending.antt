@@ -7,10 +7,10 @@ abbrev pub refilled : {X : Type 0} → List X → List X → List X
 refilled xs ws = take (length xs) (ws ++ drop (length ws) xs)
 
 module _ (T : RattleType) (s : MutBor (List T.Denot)) where
-  -- the list ends with the item at a place replaced by the last value behind the reference
+  -- the list ends with the item at a place replaced by the last value that the reference had
   abbrev pub lends_get : ℕ → Option (MutBor T.Denot) → Fml
   lends_get at r = LendsIf (the_row T) T s r (slice_set s.now at) s.now
 
-  -- the list ends as the last items behind the slice
+  -- the list ends as the last items that the slice had
   abbrev pub lends_slice : MutBor (List T.Denot) → Fml
   lends_slice r = Lends (the_row T) (Array T 0) s r (refilled s.now)

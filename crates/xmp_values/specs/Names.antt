@@ -10,7 +10,7 @@ use Rattle.xmp_values.specs.contracts.text.Name as the_name
 abbrev pub named : List ℕ → List ℕ → Name
 named space local = record { space = space; local = local }
 
--- the names behind pairs of a local part and a namespace
+-- the names that stand for pairs of a local part and a namespace
 abbrev pub names_of : List (Bor (List ℕ) × Bor (List ℕ)) → List Name
 names_of = map (λ key. named key.1.now key.0.now)
 

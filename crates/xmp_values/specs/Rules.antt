@@ -92,7 +92,7 @@ number_of NotSynced = 130
 number_of ExifLimit = 131
 number_of ResourceLimit = 132
 
--- the name behind `refused`
+-- the name that is printed after `refused`
 abbrev pub name_of : Rule → List ℕ
 name_of NotKnown = codes "NotKnown"
 name_of FileLimit = codes "FileLimit"

@@ -1,4 +1,4 @@
--- What a call returned, beside what a definition gives. Only want of memory, and a failure of a device, are free.
+-- What a call returned, beside what a definition gives. Only running out of memory, and a failure of a device, are free.
 use Rattle.std.specs.Prelude.{◌≡◌, ℕ, Option, Some, None, Result, Ok, Err, IfSome}
 use Rattle.xmp_values.specs.declared.rules.Rule.{Rule}
 use Rattle.xmp_values.specs.declared.faults.Fault.{Fault}

@@ -15,7 +15,7 @@ with_text texts text = if list_any (bytes_eq text) texts then texts else texts +
 abbrev pub place_in : List (List ℕ) → List ℕ → Option ℕ
 place_in texts text = position_from (bytes_eq text) 0 texts
 
--- the texts behind references
+-- the texts that references point to
 abbrev pub texts_of : List (Bor (List ℕ)) → List (List ℕ)
 texts_of = map (λ text. text.now)
 

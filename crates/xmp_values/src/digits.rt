@@ -71,10 +71,17 @@ impl Digits {
         self.held.as_slice()
     }
 
-    /// The same digits again.
-    pub fn again(&self) -> Digits
+    /// A copy of the digits, which takes no memory.
+    pub fn copy(&self) -> Digits
         ensures { result ≡ self.now }
     {
         Digits { held: self.held }
+    }
+
+    /// `copy`, by its former name.
+    pub fn again(&self) -> Digits
+        ensures { result ≡ self.now }
+    {
+        self.copy()
     }
 }

@@ -4,7 +4,7 @@ ghost use Rattle.std.specs.Option.{option_copied};
 ghost use Rattle.xmp_values.specs.Hints.{AreValid, IsValidHint, has_space, prefix_in, space_in};
 
 use crate::characters::{is_char_text, is_name};
-use crate::spaces::is_xmlns_space;
+use crate::spaces::is_xmlns_namespace;
 use crate::{Bytes, Memory, Sequence};
 use std::alloc::Global;
 use std::marker::Model;
@@ -42,7 +42,7 @@ pub fn is_valid_hint(hint: &Hint) -> bool
     ensures { IsTrue result ↔ IsValidHint hint.now }
 {
     let space = hint.space.as_slice();
-    if space.is_empty() || is_xmlns_space(space) {
+    if space.is_empty() || is_xmlns_namespace(space) {
         return false;
     }
     is_char_text(space) && is_name(hint.prefix.as_slice())

@@ -1,7 +1,7 @@
 //! What every crate speaks of: lists, texts, names and sets of them, characters, hints,
-//! digits, words, rules and faults.
+//! digits, words, rules, faults and the shapes of failure.
 //!
-//! Each type is to contracts the plain value that it stands for: a `Sequence` its list, a
+//! To contracts each type is the plain value that it stands for: a `Sequence` its list, a
 //! `Text` its bytes, `Words` a list of texts. Nothing here reads a file; it stands on `std`
 //! alone. XML 1.0 (fifth edition) and Namespaces in XML 1.0 for characters and names.
 #![tactic(auto)]
@@ -34,7 +34,10 @@ pub use memory::Memory;
 pub use names::{NameSet, Named, names_differ};
 pub use rules::Rule;
 pub use sequence::{Bytes, Sequence};
-pub use spaces::{is_rdf_space, is_xml_space, is_xmlns_space};
+pub use spaces::{
+    is_rdf_namespace, is_rdf_space, is_xml_namespace, is_xml_space, is_xmlns_namespace,
+    is_xmlns_space,
+};
 pub use span::Span;
 pub use stops::{DeviceStop, FaultStop, FileStop, PlaceStop, RuleStop};
 pub use text::{Name, Text};

@@ -63,17 +63,17 @@ pub enum Rule {
     BadChar,
     /// 43: a document type declaration.
     Doctype,
-    /// 44: no reference behind `&`.
+    /// 44: no reference after `&`.
     BadReference,
-    /// 45: no tag behind `<`.
+    /// 45: no tag after `<`.
     BadTag,
-    /// 46: no comment behind `<!--`.
+    /// 46: no comment after `<!--`.
     BadComment,
-    /// 47: no instruction behind `<?`.
+    /// 47: no instruction after `<?`.
     BadInstruction,
     /// 48: another encoding than UTF-8.
     Encoding,
-    /// 49: no CDATA section behind `<![CDATA[`.
+    /// 49: no CDATA section after `<![CDATA[`.
     BadCdata,
     /// 50: a piece that can't stand outside the root.
     OutsideRoot,
@@ -150,7 +150,7 @@ pub enum Rule {
     SegmentLimit,
     /// 91: a directory or a file that TIFF can't hold.
     TiffLimit,
-    /// 92: lengths behind a multi-picture index change.
+    /// 92: lengths after a multi-picture index change.
     AfterMultiPicture,
     /// 93: the packet doesn't fit in place.
     NeedsRelocation,
