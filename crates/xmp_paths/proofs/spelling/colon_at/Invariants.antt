@@ -1,0 +1,7 @@
+use Rattle.std.proofs.Common.{◌≡◌, ℕ, ◌<◌, get_or, false}
+use Rattle.xmp_paths.specs.Grammar.{is_colon}
+use Rattle.xmp_paths.proofs.spelling.colon_at.Given as goal
+
+-- no colon stands before this place
+abbrev pub invariant-loop-at : goal.invariant-loop-at
+invariant-loop-at l = (k : ℕ) → k < l.at → is_colon (get_or l.text k 0) ≡ false

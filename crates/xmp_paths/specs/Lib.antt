@@ -1,0 +1,7 @@
+pub mod Parts
+pub mod Grammar
+pub mod Namespaces
+pub mod Paths
+pub mod Places
+pub mod Allowed
+pub mod Answering
