@@ -62,20 +62,43 @@ free_space space chars free =
 
 all_known : All IsKnown known_prefixes
 unfolding rdf_space xml_space xmlns_space meta_space is_char encode_utf8
-all_known = each_all known_prefixes (
-    (free_space rdf_space ((IsCharText-spells rdf_space).1 (rdf_space, refl, refl)) refl,
-    (free_space xml_space ((IsCharText-spells xml_space).1 (xml_space, refl, refl)) refl,
-    (free_space meta_space ((IsCharText-spells meta_space).1 (meta_space, refl, refl)) refl,
-    (free_space (codes "http://purl.org/dc/elements/1.1/") ((IsCharText-spells (codes "http://purl.org/dc/elements/1.1/")).1 ((codes "http://purl.org/dc/elements/1.1/"), refl, refl)) refl,
-    (free_space (codes "http://ns.adobe.com/xap/1.0/") ((IsCharText-spells (codes "http://ns.adobe.com/xap/1.0/")).1 ((codes "http://ns.adobe.com/xap/1.0/"), refl, refl)) refl,
-    (free_space (codes "http://ns.adobe.com/xap/1.0/mm/") ((IsCharText-spells (codes "http://ns.adobe.com/xap/1.0/mm/")).1 ((codes "http://ns.adobe.com/xap/1.0/mm/"), refl, refl)) refl,
-    (free_space (codes "http://ns.adobe.com/xap/1.0/rights/") ((IsCharText-spells (codes "http://ns.adobe.com/xap/1.0/rights/")).1 ((codes "http://ns.adobe.com/xap/1.0/rights/"), refl, refl)) refl,
-    (free_space (codes "http://ns.adobe.com/photoshop/1.0/") ((IsCharText-spells (codes "http://ns.adobe.com/photoshop/1.0/")).1 ((codes "http://ns.adobe.com/photoshop/1.0/"), refl, refl)) refl,
-    (free_space (codes "http://ns.adobe.com/tiff/1.0/") ((IsCharText-spells (codes "http://ns.adobe.com/tiff/1.0/")).1 ((codes "http://ns.adobe.com/tiff/1.0/"), refl, refl)) refl,
-    (free_space (codes "http://ns.adobe.com/exif/1.0/") ((IsCharText-spells (codes "http://ns.adobe.com/exif/1.0/")).1 ((codes "http://ns.adobe.com/exif/1.0/"), refl, refl)) refl,
-    (free_space (codes "http://ns.adobe.com/xmp/note/") ((IsCharText-spells (codes "http://ns.adobe.com/xmp/note/")).1 ((codes "http://ns.adobe.com/xmp/note/"), refl, refl)) refl,
-    (free_space (codes "http://iptc.org/std/Iptc4xmpCore/1.0/xmlns/") ((IsCharText-spells (codes "http://iptc.org/std/Iptc4xmpCore/1.0/xmlns/")).1 ((codes "http://iptc.org/std/Iptc4xmpCore/1.0/xmlns/"), refl, refl)) refl,
-    tt)))))))))))))
+all_known = each_all known_prefixes ((
+  free_space rdf_space ((IsCharText-spells rdf_space).1 (rdf_space, refl, refl)) refl,
+  (
+    free_space xml_space ((IsCharText-spells xml_space).1 (xml_space, refl, refl)) refl,
+    (
+      free_space meta_space ((IsCharText-spells meta_space).1 (meta_space, refl, refl)) refl,
+      (
+        free_space (codes "http://purl.org/dc/elements/1.1/") ((IsCharText-spells (codes "http://purl.org/dc/elements/1.1/")).1 ((codes "http://purl.org/dc/elements/1.1/"), refl, refl)) refl,
+        (
+          free_space (codes "http://ns.adobe.com/xap/1.0/") ((IsCharText-spells (codes "http://ns.adobe.com/xap/1.0/")).1 ((codes "http://ns.adobe.com/xap/1.0/"), refl, refl)) refl,
+          (
+            free_space (codes "http://ns.adobe.com/xap/1.0/mm/") ((IsCharText-spells (codes "http://ns.adobe.com/xap/1.0/mm/")).1 ((codes "http://ns.adobe.com/xap/1.0/mm/"), refl, refl)) refl,
+            (
+              free_space (codes "http://ns.adobe.com/xap/1.0/rights/") ((IsCharText-spells (codes "http://ns.adobe.com/xap/1.0/rights/")).1 ((codes "http://ns.adobe.com/xap/1.0/rights/"), refl, refl)) refl,
+              (
+                free_space (codes "http://ns.adobe.com/photoshop/1.0/") ((IsCharText-spells (codes "http://ns.adobe.com/photoshop/1.0/")).1 ((codes "http://ns.adobe.com/photoshop/1.0/"), refl, refl)) refl,
+                (
+                  free_space (codes "http://ns.adobe.com/tiff/1.0/") ((IsCharText-spells (codes "http://ns.adobe.com/tiff/1.0/")).1 ((codes "http://ns.adobe.com/tiff/1.0/"), refl, refl)) refl,
+                  (
+                    free_space (codes "http://ns.adobe.com/exif/1.0/") ((IsCharText-spells (codes "http://ns.adobe.com/exif/1.0/")).1 ((codes "http://ns.adobe.com/exif/1.0/"), refl, refl)) refl,
+                    (
+                      free_space (codes "http://ns.adobe.com/xmp/note/") ((IsCharText-spells (codes "http://ns.adobe.com/xmp/note/")).1 ((codes "http://ns.adobe.com/xmp/note/"), refl, refl)) refl,
+                      (
+                        free_space (codes "http://iptc.org/std/Iptc4xmpCore/1.0/xmlns/") ((IsCharText-spells (codes "http://iptc.org/std/Iptc4xmpCore/1.0/xmlns/")).1 ((codes "http://iptc.org/std/Iptc4xmpCore/1.0/xmlns/"), refl, refl)) refl,
+                        tt,
+                      ),
+                    ),
+                  ),
+                ),
+              ),
+            ),
+          ),
+        ),
+      ),
+    ),
+  ),
+))
 
 known : (prefix : List ℕ) → IfSome (known_space prefix) IsSpace
 known prefix = by (find (λ k. bytes_eq prefix k.1) known_prefixes) (found IsKnown (λ k. bytes_eq prefix k.1) known_prefixes all_known)

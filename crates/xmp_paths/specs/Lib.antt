@@ -4,4 +4,3 @@ pub mod Namespaces
 pub mod Paths
 pub mod Places
 pub mod Allowed
-pub mod Answering

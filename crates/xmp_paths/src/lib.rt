@@ -13,7 +13,8 @@ mod path;
 mod resolving;
 mod spelling;
 mod step;
-mod stops;
+#[cfg(test)]
+mod tests;
 
 pub use finding::find;
 pub use namespaces::Namespaces;
@@ -21,4 +22,4 @@ pub use numbers::{is_lang_tag, place_of_number};
 pub use path::Path;
 pub use spelling::{Prefixed, SpelledStep, Spelling, is_prefix, prefixed_name, spelled};
 pub use step::Step;
-pub use stops::PathStop;
+pub use xmp_values::RuleStop as PathStop;

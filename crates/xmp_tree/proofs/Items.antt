@@ -1,5 +1,5 @@
 -- What is put at the place of a value that was moved out stands as if put there at once.
-use Rattle.std.proofs.Common.{◌≡◌, ◌∙◌, ◌++◌, ℕ, List, [], set, take, drop, Option, Some, None, ap, sym, subst, arith}
+use Rattle.std.proofs.Common.{◌≡◌, ◌∙◌, ◌++◌, ℕ, List, [], set, take, drop, Option, Some, None, ap, subst, arith}
 use Rattle.std.specs.Prelude.{slice_get, slice_set, remove, IfSome}
 use Prim.Native.Nat.{suc}
 use Rattle.std.proofs.lemmas.List.{get_or-set_same, length-set, set-set, take-set, drop-set-lt}
