@@ -1,0 +1,86 @@
+-- A packet of a tree has a document, whose root is the writing of the tree.
+use Rattle.std.proofs.Common.{◌≡◌, ℕ, ◌+◌, Bool, true, false, ◌⊎◌, inl, inr, List, [], ◌∷◌, ◌++◌, length, refl, ap, sym, subst, ◌∙◌, append-nil, arith}
+use Rattle.std.specs.Prelude.{IsTrue, codes, ◌==◌, chars, encode_utf8_all}
+use Rattle.std.specs.List.{list_all}
+use lib.Utf8.{encode}
+use Rattle.std.proofs.lemmas.Bool.{and_parts, or_cases, eqb-true}
+use Rattle.std.proofs.lemmas.Str.{chars-encodes, char_from_byte}
+use Rattle.xmp_values.specs.Characters.{is_char, is_blank}
+use Rattle.xmp_values.specs.declared.hints.Hint.{Hint}
+use Rattle.xml_grammar.specs.declared.elements.Child.TheVariants as child
+use Rattle.xml_grammar.specs.declared.elements.Element.{Element}
+use Rattle.xml_grammar.specs.Pieces.{Character}
+use Rattle.xml_grammar.specs.Nesting.{Nest, start, broken}
+use Rattle.xml_grammar.specs.Trees.{events, events_of, hints_of}
+use Rattle.xml_grammar.specs.Documents.{mark_width, behind_mark, Reads, IsDocument}
+use Rattle.round_trip.specs.Packets.{is_pad, header_chars, packet_of, PacketDocument}
+use Rattle.xmp_write.specs.Text.{tree_text}
+use Rattle.round_trip.proofs.Spelt.{IsSpelt, Anything, spelt_then, spelt_none, spelt_one}
+use Rattle.round_trip.proofs.Frames.{outside}
+use Rattle.round_trip.proofs.Texts.{tree_made}
+use Rattle.round_trip.proofs.Packets.{header_spelt, trailer_spelt}
+
+abbrev pub around_root : Bool → Nest
+around_root rooted = record { first = false; levels = []; rooted = rooted }
+
+pad_one : (rooted : Bool) (at c : ℕ) → (c ≡ 0x20) ⊎ (c ≡ 0xA) → IsSpelt Anything (around_root rooted) at (c ∷ []) (λ es. es) (around_root rooted)
+unfolding broken is_char is_blank encode
+pad_one rooted at c (inl is) = subst (λ (c : ℕ). IsSpelt Anything (around_root rooted) at (c ∷ []) (λ es. es) (around_root rooted)) (sym is)
+    (spelt_one (around_root rooted) at (Character 0x20) (codes " ") (λ es. es) (λ left. record { spelled = (refl, λ e. omega arith, λ e. omega arith, λ e. omega arith, refl); fits = λ mode is. absurd (omega arith) }) refl refl (λ more. refl))
+pad_one rooted at c (inr is) = subst (λ (c : ℕ). IsSpelt Anything (around_root rooted) at (c ∷ []) (λ es. es) (around_root rooted)) (sym is)
+    (spelt_one (around_root rooted) at (Character 0xA) (codes "\n") (λ es. es) (λ left. record { spelled = (refl, λ e. omega arith, λ e. omega arith, λ e. omega arith, refl); fits = λ mode is. absurd (omega arith) }) refl refl (λ more. refl))
+
+pub pad_spelt : (rooted : Bool) (at : ℕ) (cs : List ℕ) → IsTrue (list_all is_pad cs) → IsSpelt Anything (around_root rooted) at cs (λ es. es) (around_root rooted)
+pad_spelt rooted at [] h = spelt_none (around_root rooted) at
+pad_spelt rooted at (c ∷ cs) h =
+    let parts = and_parts (is_pad c) (list_all is_pad cs) h in
+    spelt_then Anything Anything (around_root rooted) (around_root rooted) (around_root rooted) at (c ∷ []) cs (λ es. es) (λ es. es)
+    (pad_one rooted at c (by (or_cases (c == 0x20) (c == 0xA) parts.0))) (pad_spelt rooted (at + length (c ∷ [])) cs parts.1) (λ left any. tt)
+  where
+    by : ((c == 0x20) ≡ true) ⊎ ((c == 0xA) ≡ true) → (c ≡ 0x20) ⊎ (c ≡ 0xA)
+    by (inl h) = inl (eqb-true c 0x20 h)
+    by (inr h) = inr (eqb-true c 0xA h)
+
+-- a text that begins with `<` has no mark
+no_mark : (cs rest : List ℕ) → encode_utf8_all cs ≡ 0x3C ∷ rest → (mark_width cs ≡ 0) × (behind_mark cs ≡ cs)
+no_mark [] rest is = absurd cc
+no_mark (c ∷ cs) rest is =
+    let one : c ≡ 0x3C = char_from_byte (0x3C ∷ rest) (encode_utf8_all cs) c (sym is) (omega arith) (omega arith) in
+    subst (λ (c : ℕ). (mark_width (c ∷ cs) ≡ 0) × (behind_mark (c ∷ cs) ≡ c ∷ cs)) (sym one) (refl, refl)
+
+-- a text from `<` on that pieces spell to its end, and whose events are those of an element, has that document
+document_of : (text rest : List ℕ) (root : Element) → text ≡ 0x3C ∷ rest → IsSpelt Anything start 0 text (λ es. events (child.Element root) ++ es) (around_root true)
+    → (hints : List Hint) × IsDocument text root hints
+document_of text rest root first h =
+    let read : chars text ≡ h.chars = ap chars h.utf8 ∙ chars-encodes h.chars h.scalar in
+    let mark = no_mark h.chars rest (sym h.utf8 ∙ first) in
+    let all : Reads start 0 h.pieces h.chars [] = subst (λ (x : List ℕ). Reads start 0 h.pieces x []) (append-nil h.chars) (h.read [] tt) in
+    let begun : Reads start (mark_width h.chars) h.pieces (behind_mark h.chars) [] =
+    subst (λ (n : ℕ). Reads start n h.pieces (behind_mark h.chars) []) (sym mark.0) (subst (λ (x : List ℕ). Reads start 0 h.pieces x []) (sym mark.1) all) in (
+      hints_of h.pieces,
+      record {
+        utf8 = (h.chars, (h.scalar, sym h.utf8));
+        pieces = h.pieces;
+        read = subst (λ (x : List ℕ). Reads start (mark_width x) h.pieces (behind_mark x) []) (sym read) begun;
+        closed = ap (λ (n : Nest). n.levels) h.ends;
+        rooted = ap (λ (n : Nest). n.rooted) h.ends;
+        tree = ap (events_of start) (sym (append-nil h.pieces)) ∙ h.means [] ∙ append-nil (events (child.Element root));
+        hinted = refl;
+      },
+    )
+
+pub packet_document : PacketDocument
+unfolding encode
+packet_document ps about props pad text h each padded =
+    let a : List ℕ = encode_utf8_all header_chars in
+    let m = tree_made ps about props (0 + length a + length (codes "\n")) text h each in
+    let b : List ℕ = tree_text ps about props in
+    let c : List ℕ = codes "<?xpacket end=\"w\"?>" in
+    let on : ℕ = 0 + length a + length (codes "\n") + length b in
+    let end = spelt_then Anything Anything (around_root true) (around_root true) (around_root true) on pad c (λ es. es) (λ es. es) (pad_spelt true on pad padded) (trailer_spelt (on + length pad)) (λ left any. tt) in
+    let back = spelt_then Anything Anything outside (around_root true) (around_root true) (0 + length a + length (codes "\n")) b (pad ++ c) (λ es. events (child.Element m.root) ++ es) (λ es. es) m.spelt end (λ left any. tt) in
+    let line = spelt_then Anything Anything outside outside (around_root true) (0 + length a) (codes "\n") (b ++ (pad ++ c)) (λ es. es) (λ es. events (child.Element m.root) ++ es)
+    (pad_spelt false (0 + length a) (codes "\n") refl) back (λ left any. tt) in
+    let all = spelt_then Anything Anything start outside (around_root true) 0 a (codes "\n" ++ (b ++ (pad ++ c))) (λ es. es) (λ es. events (child.Element m.root) ++ es) (header_spelt 0) line (λ left any. tt) in
+    let d = document_of (packet_of ps about props pad) _ m.root refl all in
+    (m.root, m.is, d.0, d.1)
