@@ -6,9 +6,11 @@ pub mod HeadParts
 pub mod OnePiece
 pub mod Readings
 pub mod TreeEvents
+pub mod LeastRule
 pub mod OneMeaning
 pub mod SoundTrees
 pub mod Unbroken
+pub mod LowTrees
 pub mod SoundPieces
 pub mod SoundHints
 pub mod Stopping

@@ -8,6 +8,7 @@ use Rattle.std.proofs.lemmas.Bool.{ltb-true}
 use lib.Utf8.{encode, next}
 use Rattle.xmp_values.specs.Characters.{is_char}
 use Rattle.xmp_values.specs.declared.hints.Hint.{Hint}
+use Rattle.xmp_values.specs.Rules.{number_of}
 use Rattle.xmp_values.specs.declared.rules.Rule.{Rule}
 use Rattle.xmp_values.specs.declared.rules.Rule.TheVariants.{Utf16, NotUtf8, BadChar, Doctype, BadReference, BadTag, BadComment, BadInstruction, Encoding, BadCdata, OutsideRoot, Mismatch, BadNamespace, UnboundPrefix, TwiceAttribute, TooDeep, Unfinished}
 use Rattle.xml_grammar.specs.declared.tokens.Mode.{Mode}
@@ -15,11 +16,12 @@ use Rattle.xml_grammar.specs.declared.tokens.Mode.TheVariants as modes
 use Rattle.xml_grammar.specs.declared.elements.Element.{Element}
 use Rattle.xml_grammar.specs.Spelling.{BeginsWith}
 use Rattle.xml_grammar.specs.Pieces.{Piece, Declaration, Instruction, Comment, Cdata, Start, End, Reference, LineEnd, Character, Fits, Stands, HasPiece}
-use Rattle.xml_grammar.specs.Nesting.{Nest, start, mode_of, broken}
+use Rattle.xml_grammar.specs.Nesting.{Nest, start, mode_of, breaks, piece_rules, broken}
 use Rattle.xml_grammar.specs.Trees.{Placed, events_of, hints_of}
-use Rattle.xml_grammar.specs.Documents.{width, mark_width, behind_mark, Breaks, IsDocument, IsRule, IsPieceFault, IsUtf16, IsFault, nest_after}
+use Rattle.xml_grammar.specs.Documents.{width, mark_width, behind_mark, Breaks, Holds, IsDocument, IsRule, IsPieceFault, IsUtf16, IsFault, nest_after}
 use Rattle.xml_grammar.proofs.Splits.{both, cons_same, head_same, tail_same, not_both}
 use Rattle.xml_grammar.proofs.Parts.{apart}
+use Rattle.xml_grammar.proofs.LeastRule.{one_in, rules_grow, is_piece_rule, broken_breaks, broken_least}
 use Rattle.xml_grammar.proofs.OnePiece.{kind_at, kind, kind_is, kind_some, plain_kind, one_piece}
 use Rattle.xml_grammar.proofs.Readings.{same_reads}
 use Rattle.xml_grammar.proofs.TreeEvents.{same_element}
@@ -80,7 +82,7 @@ not_empty : (s : Nest) (c : ℕ) (rest left : List ℕ) → left ≡ c ∷ rest 
 not_empty s c rest left e f = absurd cc
 
 -- no piece begins so
-kind_none : (s : Nest) (left : List ℕ) → kind_at left ≡ 8 → NoneStands s left
+pub kind_none : (s : Nest) (left : List ℕ) → kind_at left ≡ 8 → NoneStands s left
 kind_none s left e (p, front, back, stands, is) = kind_some p (sym (kind_is p front back stands.spelled) ∙ ap kind_at (sym is) ∙ e)
 
 -- each piece begins with a Char
@@ -133,13 +135,13 @@ bad_rule c rest f =
     let b : (0x26 == c) ≡ false = bad_begins 0x26 ampersand_char c f in
     rw (a, b) refl
 
-bracket_none : (s : Nest) (left : List ℕ) → mode_of s ≡ modes.Inside → BeginsWith (codes "]]>") left → NoneStands s left
+pub bracket_none : (s : Nest) (left : List ℕ) → mode_of s ≡ modes.Inside → BeginsWith (codes "]]>") left → NoneStands s left
 bracket_none s left inside (rest, at) (p, front, back, stands, is) =
     let k : kind p ≡ 7 = sym (kind_is p front back stands.spelled) ∙ ap kind_at (sym is ∙ at) in
     let h = plain_piece (mode_of s) p front back 0x5D (codes "]>" ++ rest) stands (sym is ∙ at) k in
     h.1 inside refl (rest, refl)
 
-pub says : (s : Nest) (left : List ℕ) (r : Rule) → IsRule s left r → Says s left r
+pub says : (s : Nest) (left : List ℕ) (r : Rule) → Holds s left r → Says s left r
 says s left BadChar (inl (c, rest, f, at)) = inr (record { none = bad_none s c rest left f at; rule = sym (ap rule_at at ∙ bad_rule c rest f); ends = not_empty s c rest left at })
 says s left BadChar (inr (inside, begins)) = inr (record { none = bracket_none s left inside begins; rule = sym (ap rule_at begins.1); ends = not_empty s 0x5D (codes "]>" ++ begins.0) left begins.1 })
 says s left Doctype (rest, at) = inr (record { none = kind_none s left (ap kind_at at); rule = sym (ap rule_at at); ends = not_empty s 0x3C (codes "!DOCTYPE" ++ rest) left at })
@@ -153,27 +155,56 @@ says s left BadTag (((rest, at), none), doctype, comment, instruction, cdata) =
     inr (record { none = none; rule = sym (rw (a, b, c, d, e) refl); ends = not_empty s 0x3C rest left at })
 says s left BadComment ((rest, at), none) = inr (record { none = none; rule = sym (ap rule_at at); ends = not_empty s 0x3C (codes "!--" ++ rest) left at })
 says s left BadInstruction ((rest, at), none) = inr (record { none = none; rule = sym (ap rule_at at); ends = not_empty s 0x3C (codes "?" ++ rest) left at })
-says s left Encoding h = inl h
 says s left BadCdata ((rest, at), none) = inr (record { none = none; rule = sym (ap rule_at at); ends = not_empty s 0x3C (codes "![CDATA[" ++ rest) left at })
-says s left OutsideRoot h = inl h
-says s left Mismatch h = inl h
-says s left BadNamespace h = inl h
-says s left UnboundPrefix h = inl h
-says s left TwiceAttribute h = inl h
-says s left TooDeep h = inl h
 says s left Unfinished (at, open_still) = inr (record { none = kind_none s left (ap kind_at at); rule = sym (ap rule_at at); ends = λ e. open_still })
-says s left r h = absurd h
+says s left r h = inl h
 
-some_same : (q r : Rule) → Some q ≡ Some r → q ≡ r
-some_same q r e = cc
+-- a rule that the text tells is the only one that holds
+pub told_rule : (s : Nest) (left : List ℕ) (r : Rule) → NoneStands s left → Holds s left r → IsRule s left r
+told_rule s left r none h = (h, λ q k. only q (says s left r h) (says s left q k))
+  where
+    only : (q : Rule) → Says s left r → Says s left q → number_of r ≤ number_of q
+    only q (inl (p, front, back, stands, is, broke)) k = absurd (none (p, front, back, stands, is))
+    only q (inr t) (inl (p, front, back, stands, is, broke)) = absurd (none (p, front, back, stands, is))
+    only q (inr t) (inr u) = let same : number_of r ≡ number_of q = ap number_of (t.rule ∙ sym u.rule) in omega arith
 
-one_says : (s : Nest) (left : List ℕ) (q r : Rule) → Says s left q → Says s left r → q ≡ r
-one_says s left q r (inl (p, front, back, stands, is, broke)) (inl (p', front', back', stands', is', broke')) =
-    let one = one_piece (mode_of s) p p' front front' back back' stands stands' (sym is ∙ is') in
-    some_same q r (sym broke ∙ ap (broken s) one.0 ∙ broke')
-one_says s left q r (inl (p, front, back, stands, is, broke)) (inr t) = absurd (t.none (p, front, back, stands, is))
-one_says s left q r (inr t) (inl (p, front, back, stands, is, broke)) = absurd (t.none (p, front, back, stands, is))
-one_says s left q r (inr t) (inr u) = t.rule ∙ sym u.rule
+-- a whole piece stands at the front, and r is the first rule that it breaks
+abbrev pub IsBroken : Nest → List ℕ → Rule → Type 0
+IsBroken s left r = (piece : Piece) × (front : List ℕ) × (back : List ℕ) × Stands (mode_of s) piece front back × (left ≡ front ++ back) × (broken s piece ≡ Some r)
+
+-- that rule is the one for what is left
+pub broken_rule : (s : Nest) (left : List ℕ) (r : Rule) → IsBroken s left r → IsRule s left r
+broken_rule s left r (p, front, back, stands, is, broke) = (held r (p, front, back, stands, is, broken_breaks s p r broke), λ q k. least q (says s left q k))
+  where
+    held : (c : Rule) → Breaks s left c → Holds s left c
+    held Encoding b = b
+    held OutsideRoot b = b
+    held Mismatch b = b
+    held BadNamespace b = b
+    held UnboundPrefix b = b
+    held TwiceAttribute b = b
+    held TooDeep b = b
+    held c (piece, before, after, h, k, none) = absurd cc
+
+    least : (q : Rule) → Says s left q → number_of r ≤ number_of q
+    least q (inl (p', front', back', stands', is', broke')) =
+        let one = one_piece (mode_of s) p p' front front' back back' stands stands' (sym is ∙ is') in
+        broken_least s p r broke q (ap (λ (z : Piece). breaks s z q) one.0 ∙ broke')
+    least q (inr t) = absurd (t.none (p, front, back, stands, is))
+
+one_says : (s : Nest) (left : List ℕ) (q r : Rule) → number_of q ≡ number_of r → Says s left q → Says s left r → q ≡ r
+one_says s left q r same (inl (p, front, back, stands, is, broke)) (inl (p', front', back', stands', is', broke')) =
+    one_in piece_rules rules_grow q r (is_piece_rule s p q broke) (is_piece_rule s p' r broke') same
+one_says s left q r same (inl (p, front, back, stands, is, broke)) (inr t) = absurd (t.none (p, front, back, stands, is))
+one_says s left q r same (inr t) (inl (p, front, back, stands, is, broke)) = absurd (t.none (p, front, back, stands, is))
+one_says s left q r same (inr t) (inr u) = t.rule ∙ sym u.rule
+
+-- at most one rule is the one for what is left
+one_rule : (s : Nest) (left : List ℕ) (q r : Rule) → IsRule s left q → IsRule s left r → q ≡ r
+one_rule s left q r h k =
+    let low = h.1 r k.0 in
+    let high = k.1 q h.0 in
+    one_says s left q r (omega arith) (says s left q h.0) (says s left r k.0)
 
 -- nothing is left, so no piece breaks a rule
 says_open : (s : Nest) (r : Rule) → Says s [] r → IsOpen s
@@ -239,7 +270,7 @@ one_piece_fault text q r m n f g =
     let a = f.ends in
     let b = g.ends in
     let place : m ≡ n = omega arith in
-    (one_says (nest_after start g.pieces) g.left q r (says (nest_after start g.pieces) g.left q rule) (says (nest_after start g.pieces) g.left r g.rule), place)
+    (one_rule (nest_after start g.pieces) g.left q r rule g.rule, place)
 
 one_faulty : (text : List ℕ) (q r : Rule) (m n : ℕ) → Faulty text q m → Faulty text r n → (q ≡ r) × (m ≡ n)
 one_faulty text q r m n (inl (is, h, at)) (inl (is', h', at')) = (is ∙ sym is', at ∙ sym at')
@@ -270,7 +301,7 @@ no_piece_fault text e h r place d f =
     let same = same_reads start (mark_width (chars text)) d.pieces f.pieces (behind_mark (chars text)) [] f.left d.read f.read (sym (ap length none)) in
     let rule : IsRule (nest_after start d.pieces) [] r =
     subst (λ (z : List Placed). IsRule (nest_after start z) [] r) (sym same.0) (subst (λ (z : List ℕ). IsRule (nest_after start f.pieces) z r) none f.rule) in
-    document_closed (nest_after start d.pieces) d.closed d.rooted (says_open (nest_after start d.pieces) r (says (nest_after start d.pieces) [] r rule))
+    document_closed (nest_after start d.pieces) d.closed d.rooted (says_open (nest_after start d.pieces) r (says (nest_after start d.pieces) [] r rule.0))
 
 no_faulty : (text : List ℕ) (e : Element) (h : List Hint) (r : Rule) (place : ℕ) → IsDocument text e h → Faulty text r place → ⊥
 no_faulty text e h r place d (inl (is, utf16, at)) = not_both_texts text utf16 d.utf8

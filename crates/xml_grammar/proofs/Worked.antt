@@ -18,13 +18,14 @@ use Rattle.xml_grammar.specs.declared.tokens.Mode.TheVariants as modes
 use Rattle.xml_grammar.specs.Pieces.{Piece, Start, End, Reference, Spells, Stands, HasPiece}
 use Rattle.xml_grammar.specs.Nesting.{Level, Nest, start, mode_of, is_outside, enter, broken}
 use Rattle.xml_grammar.specs.Trees.{Placed}
-use Rattle.xml_grammar.specs.Documents.{Reads, IsDocument, IsFault}
+use Rattle.xml_grammar.specs.Documents.{Reads, nest_after, IsDocument, IsFault}
 use Rattle.xml_grammar.proofs.Splits.{head_same, tail_same, not_both, run_same}
 use Rattle.xml_grammar.proofs.Parts.{apart}
 use Rattle.xml_grammar.proofs.SoundPieces.{reference_char}
 use Rattle.xml_grammar.proofs.ValueParts.{is_not, Names, reference_parts, inner_all, semicolon, no_hash}
 use Rattle.xml_grammar.proofs.KindsByText.{ampersand_begins}
-use Rattle.xml_grammar.proofs.Stopping.{fault_made}
+use Rattle.xml_grammar.proofs.Stopping.{told_fault, broken_fault}
+use Rattle.xml_grammar.proofs.OneMeaning.{kind_none, bracket_none}
 use Rattle.xml_grammar.proofs.TreeEvents.{element, element_is}
 
 abbrev plain : List ℕ → QName
@@ -62,21 +63,21 @@ empty_document = record {
 pub unfinished : IsFault (codes "<a>") Unfinished 3
 unfolding str.chars encode broken
 unfinished =
-    fault_made (codes "<a>") Unfinished 3 ((0, open_tag (codes "a")) ∷ []) [] (codes "<a>", (refl, refl))
-    (refl, codes "<a>", [], record { spelled = open_spelled; fits = tt }, refl, refl, refl) refl (refl, inl (λ e. cc))
+    told_fault (codes "<a>") Unfinished 3 ((0, open_tag (codes "a")) ∷ []) [] (codes "<a>", (refl, refl))
+    (refl, codes "<a>", [], record { spelled = open_spelled; fits = tt }, refl, refl, refl) refl (kind_none (nest_after start ((0, open_tag (codes "a")) ∷ [])) [] refl) (refl, inl (λ e. cc))
 
 -- `<a>]]></a>`
 pub bad_char : IsFault (codes "<a>]]></a>") BadChar 3
 unfolding str.chars encode broken
 bad_char =
-    fault_made (codes "<a>]]></a>") BadChar 3 ((0, open_tag (codes "a")) ∷ []) (codes "]]></a>") (codes "<a>]]></a>", (refl, refl))
-    (refl, codes "<a>", codes "]]></a>", record { spelled = open_spelled; fits = tt }, refl, refl, refl) refl (inr (refl, (codes "</a>", refl)))
+    told_fault (codes "<a>]]></a>") BadChar 3 ((0, open_tag (codes "a")) ∷ []) (codes "]]></a>") (codes "<a>]]></a>", (refl, refl))
+    (refl, codes "<a>", codes "]]></a>", record { spelled = open_spelled; fits = tt }, refl, refl, refl) refl (bracket_none (nest_after start ((0, open_tag (codes "a")) ∷ [])) (codes "]]></a>") refl (codes "</a>", refl)) (inr (refl, (codes "</a>", refl)))
 
 -- `<a/><b/>`
 pub outside_root : IsFault (codes "<a/><b/>") OutsideRoot 4
 unfolding str.chars encode broken is_name_start is_name_char is_blank
 outside_root =
-    fault_made (codes "<a/><b/>") OutsideRoot 4 ((0, empty_tag (codes "a")) ∷ []) (codes "<b/>") (codes "<a/><b/>", (refl, refl))
+    broken_fault (codes "<a/><b/>") OutsideRoot 4 ((0, empty_tag (codes "a")) ∷ []) (codes "<b/>") (codes "<a/><b/>", (refl, refl))
     (refl, codes "<a/>", codes "<b/>", record { spelled = empty_spelled; fits = tt }, refl, refl, refl) refl
     (empty_tag (codes "b"), codes "<b/>", [], record { spelled = (codes "b", [], [], (refl, refl), refl, refl, refl); fits = tt }, refl, refl)
 
@@ -84,7 +85,7 @@ outside_root =
 pub mismatch : IsFault (codes "<a><b></a>") Mismatch 6
 unfolding str.chars encode broken is_name_start is_name_char is_blank
 mismatch =
-    fault_made (codes "<a><b></a>") Mismatch 6 ((0, open_tag (codes "a")) ∷ (3, open_tag (codes "b")) ∷ []) (codes "</a>") (codes "<a><b></a>", (refl, refl)) (
+    broken_fault (codes "<a><b></a>") Mismatch 6 ((0, open_tag (codes "a")) ∷ (3, open_tag (codes "b")) ∷ []) (codes "</a>") (codes "<a><b></a>", (refl, refl)) (
       refl,
       codes "<a>",
       codes "<b></a>",
@@ -133,7 +134,7 @@ pair_spelled = (
 pub twice_attribute : IsFault (codes "<a b=\"1\" b=\"2\"/>") TwiceAttribute 0
 unfolding str.chars encode broken xml_space xmlns_space
 twice_attribute =
-    fault_made (codes "<a b=\"1\" b=\"2\"/>") TwiceAttribute 0 [] (codes "<a b=\"1\" b=\"2\"/>") (codes "<a b=\"1\" b=\"2\"/>", (refl, refl)) refl refl
+    broken_fault (codes "<a b=\"1\" b=\"2\"/>") TwiceAttribute 0 [] (codes "<a b=\"1\" b=\"2\"/>") (codes "<a b=\"1\" b=\"2\"/>", (refl, refl)) refl refl
     (pair_tag, codes "<a b=\"1\" b=\"2\"/>", [], record { spelled = pair_spelled; fits = tt }, refl, refl)
 
 -- ---- no reference
@@ -162,13 +163,13 @@ none_copied p c front back after is h e = no_copy c (cut_at (codes "&copy") afte
 pub bad_reference : IsFault (codes "<a>&copy;</a>") BadReference 3
 unfolding str.chars encode broken
 bad_reference =
-    fault_made (codes "<a>&copy;</a>") BadReference 3 ((0, open_tag (codes "a")) ∷ []) (codes "&copy;</a>") (codes "<a>&copy;</a>", (refl, refl))
-    (refl, codes "<a>", codes "&copy;</a>", record { spelled = open_spelled; fits = tt }, refl, refl, refl) refl (
-      (codes "copy;</a>", refl),
-      λ (h : HasPiece modes.Inside (codes "&copy;</a>")).
-          let r = ampersand_begins modes.Inside h.0 h.1 h.2 h.3 (codes "copy;</a>", sym h.4) in
-          none_copied h.0 r.0 h.1 h.2 (codes "</a>") r.1 h.3.spelled h.4,
-    )
+    told_fault (codes "<a>&copy;</a>") BadReference 3 ((0, open_tag (codes "a")) ∷ []) (codes "&copy;</a>") (codes "<a>&copy;</a>", (refl, refl))
+    (refl, codes "<a>", codes "&copy;</a>", record { spelled = open_spelled; fits = tt }, refl, refl, refl) refl none ((codes "copy;</a>", refl), none)
+  where
+    none : HasPiece modes.Inside (codes "&copy;</a>") → ⊥
+    none h =
+        let r = ampersand_begins modes.Inside h.0 h.1 h.2 h.3 (codes "copy;</a>", sym h.4) in
+        none_copied h.0 r.0 h.1 h.2 (codes "</a>") r.1 h.3.spelled h.4
 
 zero_no_char : is_char 0 ≡ false
 unfolding is_char
@@ -192,13 +193,13 @@ none_zero p c front back after is h e =
 pub zero_reference : IsFault (0xEF ∷ 0xBB ∷ 0xBF ∷ codes "<a>&#0;</a>") BadReference 6
 unfolding str.chars encode broken
 zero_reference =
-    fault_made (0xEF ∷ 0xBB ∷ 0xBF ∷ codes "<a>&#0;</a>") BadReference 6 ((3, open_tag (codes "a")) ∷ []) (codes "&#0;</a>") (0xFEFF ∷ codes "<a>&#0;</a>", (refl, refl))
-    (refl, codes "<a>", codes "&#0;</a>", record { spelled = open_spelled; fits = tt }, refl, refl, refl) refl (
-      (codes "#0;</a>", refl),
-      λ (h : HasPiece modes.Inside (codes "&#0;</a>")).
-          let r = ampersand_begins modes.Inside h.0 h.1 h.2 h.3 (codes "#0;</a>", sym h.4) in
-          none_zero h.0 r.0 h.1 h.2 (codes "</a>") r.1 h.3.spelled h.4,
-    )
+    told_fault (0xEF ∷ 0xBB ∷ 0xBF ∷ codes "<a>&#0;</a>") BadReference 6 ((3, open_tag (codes "a")) ∷ []) (codes "&#0;</a>") (0xFEFF ∷ codes "<a>&#0;</a>", (refl, refl))
+    (refl, codes "<a>", codes "&#0;</a>", record { spelled = open_spelled; fits = tt }, refl, refl, refl) refl none ((codes "#0;</a>", refl), none)
+  where
+    none : HasPiece modes.Inside (codes "&#0;</a>") → ⊥
+    none h =
+        let r = ampersand_begins modes.Inside h.0 h.1 h.2 h.3 (codes "#0;</a>", sym h.4) in
+        none_zero h.0 r.0 h.1 h.2 (codes "</a>") r.1 h.3.spelled h.4
 
 -- ---- depth
 
@@ -247,7 +248,7 @@ tags_read s at (suc n) rest fresh low = (
 pub too_deep : IsFault (tags 101) TooDeep 300
 unfolding str.chars encode broken
 too_deep =
-    fault_made (tags 101) TooDeep 300 (placed_tags 0 100) (codes "<a>") (tags 101, (refl, refl))
+    broken_fault (tags 101) TooDeep 300 (placed_tags 0 100) (codes "<a>") (tags 101, (refl, refl))
     (tags_read start 0 100 (codes "<a>") refl (omega arith)) refl
     (open_tag (codes "a"), codes "<a>", [], open_stands modes.Inside [], refl, refl)
 

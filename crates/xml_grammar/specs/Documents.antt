@@ -1,17 +1,18 @@
 -- What a text's document is, and what its first fault is.
-use Rattle.std.specs.Prelude.{◌≡◌, ◌≢◌, ◌⊎◌, ℕ, ◌+◌, ◌≤◌, true, false, IsFalse, ◌==◌, if◌then◌else◌, List, [], ◌∷◌, ◌++◌, length, Some, None, chars, codes, encode_utf8_all}
+use Rattle.std.specs.Prelude.{◌≡◌, ◌≢◌, ◌⊎◌, ℕ, ◌+◌, ◌≤◌, true, false, IsTrue, IsFalse, ◌==◌, if◌then◌else◌, List, [], ◌∷◌, ◌++◌, length, None, chars, codes, encode_utf8_all}
 use Rattle.std.specs.Str.{IsUtf8}
 use Rattle.std.specs.Str.Lossy.{utf8_valid_len}
 use Rattle.xmp_values.specs.Characters.{is_char}
 use Rattle.xmp_values.specs.declared.hints.Hint.{Hint}
+use Rattle.xmp_values.specs.Rules.{number_of}
 use Rattle.xmp_values.specs.declared.rules.Rule.{Rule}
-use Rattle.xmp_values.specs.declared.rules.Rule.TheVariants.{Utf16, NotUtf8, BadChar, Doctype, BadReference, BadTag, BadComment, BadInstruction, Encoding, BadCdata, OutsideRoot, Mismatch, BadNamespace, UnboundPrefix, TwiceAttribute, TooDeep, Unfinished}
+use Rattle.xmp_values.specs.declared.rules.Rule.TheVariants.{Utf16, NotUtf8, BadChar, Doctype, BadReference, BadTag, BadComment, BadInstruction, BadCdata, Unfinished}
 use Rattle.xml_grammar.specs.declared.elements.Child.TheVariants as child
 use Rattle.xml_grammar.specs.declared.elements.Element.{Element}
 use Rattle.xml_grammar.specs.declared.tokens.Mode.TheVariants as modes
 use Rattle.xml_grammar.specs.Spelling.{BeginsWith}
 use Rattle.xml_grammar.specs.Pieces.{Piece, Stands, HasPiece}
-use Rattle.xml_grammar.specs.Nesting.{Nest, start, mode_of, enter, broken}
+use Rattle.xml_grammar.specs.Nesting.{Nest, start, mode_of, enter, breaks, broken}
 use Rattle.xml_grammar.specs.Trees.{Placed, events, events_of, hints_of}
 
 -- how many bytes characters take
@@ -58,32 +59,29 @@ pub record IsDocument (text : List ℕ) (root : Element) (hints : List Hint) : T
 abbrev pub NoPiece : Nest → List ℕ → List ℕ → Type 0
 NoPiece s needle left = BeginsWith needle left × (HasPiece (mode_of s) left → ⊥)
 
--- a whole piece stands at the front, and r is the least rule that it breaks
+-- a whole piece stands at the front, and breaks the rule there
 abbrev pub Breaks : Nest → List ℕ → Rule → Type 0
-Breaks s left r = (piece : Piece) × (front : List ℕ) × (back : List ℕ) × Stands (mode_of s) piece front back × (left ≡ front ++ back) × (broken s piece ≡ Some r)
+Breaks s left r = (piece : Piece) × (front : List ℕ) × (back : List ℕ) × Stands (mode_of s) piece front back × (left ≡ front ++ back) × IsTrue (breaks s piece r)
 
--- The rule for what is left. Each piece that begins `<!--` is a comment, `<![CDATA[` a CDATA section, `<?` an
--- instruction or an XML declaration, `&` a reference, and `<` before anything else a tag; so "no piece" is "none of these".
--- The rules of texts without a piece exclude one another.
-abbrev pub IsRule : Nest → List ℕ → Rule → Type 0
-IsRule s left BadChar = ((c : ℕ) × (rest : List ℕ) × IsFalse (is_char c) × (left ≡ c ∷ rest)) ⊎ ((mode_of s ≡ modes.Inside) × BeginsWith (codes "]]>") left)
-IsRule s left Doctype = BeginsWith (codes "<!DOCTYPE") left
-IsRule s left BadReference = NoPiece s (codes "&") left
-IsRule s left BadTag =
+-- Whether a rule holds for what is left, each rule by itself. Each piece that begins `<!--` is a comment, `<![CDATA[` a
+-- CDATA section, `<?` an instruction or an XML declaration, `&` a reference, and `<` before anything else a tag; so "no
+-- piece" is "none of these".
+abbrev pub Holds : Nest → List ℕ → Rule → Type 0
+Holds s left BadChar = ((c : ℕ) × (rest : List ℕ) × IsFalse (is_char c) × (left ≡ c ∷ rest)) ⊎ ((mode_of s ≡ modes.Inside) × BeginsWith (codes "]]>") left)
+Holds s left Doctype = BeginsWith (codes "<!DOCTYPE") left
+Holds s left BadReference = NoPiece s (codes "&") left
+Holds s left BadTag =
     NoPiece s (codes "<") left × (BeginsWith (codes "<!DOCTYPE") left → ⊥) × (BeginsWith (codes "<!--") left → ⊥)
     × (BeginsWith (codes "<?") left → ⊥) × (BeginsWith (codes "<![CDATA[") left → ⊥)
-IsRule s left BadComment = NoPiece s (codes "<!--") left
-IsRule s left BadInstruction = NoPiece s (codes "<?") left
-IsRule s left Encoding = Breaks s left Encoding
-IsRule s left BadCdata = NoPiece s (codes "<![CDATA[") left
-IsRule s left OutsideRoot = Breaks s left OutsideRoot
-IsRule s left Mismatch = Breaks s left Mismatch
-IsRule s left BadNamespace = Breaks s left BadNamespace
-IsRule s left UnboundPrefix = Breaks s left UnboundPrefix
-IsRule s left TwiceAttribute = Breaks s left TwiceAttribute
-IsRule s left TooDeep = Breaks s left TooDeep
-IsRule s left Unfinished = (left ≡ []) × ((s.levels ≢ []) ⊎ (s.rooted ≡ false))
-IsRule s left r = ⊥
+Holds s left BadComment = NoPiece s (codes "<!--") left
+Holds s left BadInstruction = NoPiece s (codes "<?") left
+Holds s left BadCdata = NoPiece s (codes "<![CDATA[") left
+Holds s left Unfinished = (left ≡ []) × ((s.levels ≢ []) ⊎ (s.rooted ≡ false))
+Holds s left r = Breaks s left r
+
+-- The rule for what is left: of those that hold the one of the least number.
+abbrev pub IsRule : Nest → List ℕ → Rule → Type 0
+IsRule s left r = Holds s left r × ((q : Rule) → Holds s left q → number_of r ≤ number_of q)
 
 -- The first fault of a text that is UTF-8: the pieces are the longest list that begins the text, and the place is where
 -- they end.

@@ -5,3 +5,4 @@ pub mod Nesting
 pub mod Trees
 pub mod Documents
 pub mod Sound
+pub mod Heights

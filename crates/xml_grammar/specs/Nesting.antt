@@ -1,6 +1,6 @@
 -- Which piece may stand where: the elements that are open, the namespaces that are in force, and the rules on whole pieces.
-use Rattle.std.specs.Prelude.{Bool, true, false, not, ◌&&◌, ◌||◌, if◌then◌else◌, nat_le, List, [], ◌∷◌, ◌++◌, length, Option, Some, None, codes}
-use Rattle.std.specs.List.{list_any}
+use Rattle.std.specs.Prelude.{Bool, true, false, not, ◌&&◌, ◌||◌, nat_le, List, [], ◌∷◌, ◌++◌, length, Option, Some, codes}
+use Rattle.std.specs.List.{list_any, find}
 use Rattle.std.specs.Str.{str_eq_ignore_ascii_case}
 use Rattle.xmp_values.specs.Characters.{is_blank}
 use Rattle.xmp_values.specs.declared.rules.Rule.{Rule}
@@ -115,14 +115,21 @@ abbrev pub is_too_deep : Nest → Piece → Bool
 is_too_deep s (Start tag) = nat_le 100 (length s.levels)
 is_too_deep s piece = false
 
--- the least rule that a whole piece breaks where it stands
+-- whether a whole piece breaks a rule where it stands, each rule by itself; the other rules aren't on whole pieces
+abbrev pub breaks : Nest → Piece → Rule → Bool
+breaks s piece Encoding = is_foreign piece
+breaks s piece OutsideRoot = is_outside s.levels && not (is_allowed_outside s.rooted piece)
+breaks s piece Mismatch = ends_other s.levels piece
+breaks s piece BadNamespace = misbinds piece
+breaks s piece UnboundPrefix = unbinds s piece
+breaks s piece TwiceAttribute = repeats s piece
+breaks s piece TooDeep = is_too_deep s piece
+breaks s piece r = false
+
+-- the rules on whole pieces, in the order of their numbers
+abbrev pub piece_rules : List Rule
+piece_rules = Encoding ∷ OutsideRoot ∷ Mismatch ∷ BadNamespace ∷ UnboundPrefix ∷ TwiceAttribute ∷ TooDeep ∷ []
+
+-- the first of them that a piece breaks
 unfoldable pub broken : Nest → Piece → Option Rule
-broken s piece =
-    if is_foreign piece then Some Encoding
-    else if is_outside s.levels && not (is_allowed_outside s.rooted piece) then Some OutsideRoot
-    else if ends_other s.levels piece then Some Mismatch
-    else if misbinds piece then Some BadNamespace
-    else if unbinds s piece then Some UnboundPrefix
-    else if repeats s piece then Some TwiceAttribute
-    else if is_too_deep s piece then Some TooDeep
-    else None
+broken s piece = find (breaks s piece) piece_rules

@@ -1,8 +1,9 @@
 //! Laws over the definitions: functions that do nothing, each with a law as its contract.
-ghost use Rattle.std.specs.Prelude.{◌≡◌, ◌⊎◌, ◌++◌, ◌∷◌, [], List, Option, ℕ, codes, replicate};
+ghost use Rattle.std.specs.Prelude.{◌≡◌, ◌≤◌, ◌⊎◌, ◌++◌, ◌∷◌, [], List, Option, None, Some, IsTrue, false, ℕ, codes, replicate};
 ghost use Rattle.std.specs.List.{concat};
 ghost use Rattle.xmp_values.specs.declared.hints.Hint.{Hint};
 ghost use Rattle.xmp_values.specs.Hints.{AreValid};
+ghost use Rattle.xmp_values.specs.Rules.{number_of};
 ghost use Rattle.xmp_values.specs.declared.rules.Rule.{Rule};
 ghost use Rattle.xmp_values.specs.declared.rules.Rule.TheVariants.{Utf16, BadChar, BadReference, OutsideRoot, Mismatch, TwiceAttribute, TooDeep, Unfinished};
 ghost use Rattle.xml_grammar.specs.declared.elements.Element.{Element};
@@ -11,7 +12,9 @@ ghost use Rattle.xml_grammar.specs.declared.tags.Tag.{Tag};
 ghost use Rattle.xml_grammar.specs.declared.tokens.Mode.{Mode};
 ghost use Rattle.xml_grammar.specs.Spelling.{BeginsWith};
 ghost use Rattle.xml_grammar.specs.Pieces.{Piece, Declaration, Instruction, Comment, Cdata, Start, End, Reference, Stands};
+ghost use Rattle.xml_grammar.specs.Nesting.{Nest, breaks, broken};
 ghost use Rattle.xml_grammar.specs.Documents.{IsDocument, IsFault};
+ghost use Rattle.xml_grammar.specs.Heights.{height};
 ghost use Rattle.xml_grammar.specs.Sound.{IsSound};
 
 /// At one place of a text at most one piece is spelled.
@@ -41,10 +44,21 @@ pub fn one_fault()
     ensures none { (text : List ℕ) (e : Element) (h : List Hint) (r : Rule) (place : ℕ) → IsDocument text e h → IsFault text r place → ⊥ }
 {}
 
+/// Of the rules that a whole piece breaks, `broken` gives the one of the least number.
+pub fn least_rule()
+    ensures least { (s : Nest) (p : Piece) (r : Rule) → broken s p ≡ Some r → IsTrue (breaks s p r) × ((q : Rule) → IsTrue (breaks s p q) → number_of r ≤ number_of q) }
+    ensures none { (s : Nest) (p : Piece) (q : Rule) → broken s p ≡ None → breaks s p q ≡ false }
+{}
+
 /// In a document the attributes of one element differ in name, no name is in the namespace of
 /// `xmlns`, local parts are names without colon, and all text is made of Chars. Its hints are valid.
 pub fn sound_document()
     ensures { (text : List ℕ) (root : Element) (hints : List Hint) → IsDocument text root hints → IsSound root × AreValid hints }
+{}
+
+/// A document is at most 100 elements high.
+pub fn document_height()
+    ensures { (text : List ℕ) (root : Element) (hints : List Hint) → IsDocument text root hints → height root ≤ 100 }
 {}
 
 /// A text whose second byte is `?` has a document only where its first byte is `<`.

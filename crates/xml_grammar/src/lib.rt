@@ -12,7 +12,8 @@ mod tokens;
 
 pub use elements::{Attribute, Attributes, Child, Children, Element};
 pub use laws::{
-    beginnings, document_gate, one_document, one_fault, one_piece, sound_document, worked_texts,
+    beginnings, document_gate, document_height, least_rule, one_document, one_fault, one_piece,
+    sound_document, worked_texts,
 };
 pub use tags::{QName, RawAttribute, Tag};
 pub use tokens::{Mode, Token};

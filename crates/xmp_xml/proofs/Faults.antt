@@ -6,15 +6,16 @@ use Rattle.std.specs.Str.{IsUtf8}
 use Rattle.std.proofs.lemmas.Bool.{eqb-false}
 use Rattle.xmp_values.specs.Characters.{is_blank}
 use Rattle.xmp_values.specs.declared.rules.Rule.{Rule}
-use Rattle.xmp_values.specs.declared.rules.Rule.TheVariants.{Utf16, NotUtf8, Encoding, OutsideRoot, Mismatch, BadNamespace, UnboundPrefix, TwiceAttribute, TooDeep, Unfinished}
+use Rattle.xmp_values.specs.declared.rules.Rule.TheVariants.{Utf16, NotUtf8, OutsideRoot, Unfinished}
 use Rattle.xml_grammar.specs.declared.elements.Element.{Element}
 use Rattle.xml_grammar.specs.declared.tokens.Mode.{Mode}
 use Rattle.xml_grammar.specs.declared.tokens.Mode.TheVariants as modes
 use Rattle.xml_grammar.specs.declared.tokens.Token.{Token}
 use Rattle.xml_grammar.specs.declared.tokens.Token.TheVariants as tokens
 use Rattle.xml_grammar.specs.Pieces.{Piece, Declaration, Instruction, Comment, Cdata, Start, End, Reference, LineEnd, Character, StandsRow, later}
-use Rattle.xml_grammar.specs.Nesting.{Nest, Level, mode_of, mode_in, is_foreign, is_outside, is_allowed_outside, ends_other, misbinds, unbinds, repeats, is_too_deep, broken}
-use Rattle.xml_grammar.specs.Documents.{width, Breaks, IsRule, IsPieceFault, IsFault}
+use Rattle.xml_grammar.specs.Nesting.{Nest, Level, mode_of, mode_in, broken}
+use Rattle.xml_grammar.specs.Documents.{width, IsRule, IsPieceFault, IsFault}
+use Rattle.xml_grammar.proofs.OneMeaning.{kind_none, told_rule, broken_rule}
 use Rattle.xml_grammar.proofs.Rows.{width-append, placed_run, behind_run}
 use Rattle.xml_grammar.proofs.Splits.{Stops}
 use Rattle.xml_grammar.proofs.Stopping.{fault_made}
@@ -37,8 +38,8 @@ err_is A c d e = cc
 
 -- a fault of pieces is the text's fault
 piece_fault : (text : List ℕ) (r : Rule) (place : ℕ) → IsPieceFault text r place → IsFault text r place
-piece_fault text Utf16 place f = absurd f.rule
-piece_fault text NotUtf8 place f = absurd f.rule
+piece_fault text Utf16 place f = let none : false ≡ true = f.rule.0.5 in cc
+piece_fault text NotUtf8 place f = let none : false ≡ true = f.rule.0.5 in cc
 piece_fault text r place f = f
 
 -- a rule for what is left
@@ -54,7 +55,7 @@ fault_at_end text s r place u k e = by_outer s.outer s.root e refl refl
     unfinished e why =
         let same = err_is Contents (Unfinished, length text) (r, place) e in
         let at : place ≡ length text - width [] = (sym (ap (λ (z : Fault). z.1) same)) ∙ (omega arith) in
-        subst (λ (z : Rule). IsFault text z place) (ap (λ (z : Fault). z.0) same) (rule_fault text [] s Unfinished place u k at (refl, why))
+        subst (λ (z : Rule). IsFault text z place) (ap (λ (z : Fault). z.0) same) (rule_fault text [] s Unfinished place u k at (told_rule (nest_of s) [] Unfinished (kind_none (nest_of s) [] refl) (refl, why)))
 
     by_outer : (outer : List Frame) (root : Option Element) → cond (is_nil outer) (or_unfinished (length text) s.hints root) (Err (Unfinished, length text)) ≡ Err (r, place) → s.outer ≡ outer → s.root ≡ root → IsFault text r place
     by_outer [] None e outer_is root_is = unfinished e (inr (ap (λ (z : List Frame). is_rooted z s.root) outer_is ∙ ap (is_rooted []) root_is))
@@ -62,24 +63,6 @@ fault_at_end text s r place u k e = by_outer s.outer s.root e refl refl
     by_outer (o ∷ os) root e outer_is root_is = unfinished e (inl (λ h. let full : levels_of s.top (o ∷ os) s.scope ≡ [] = ap (λ (z : List Frame). levels_of s.top z s.scope) (sym outer_is) ∙ h in cc))
 
 -- ---- a piece that breaks a rule
-
-broken_rule : (s : Nest) (p : Piece) (r : Rule) (left : List ℕ) → broken s p ≡ Some r → Breaks s left r → IsRule s left r
-unfolding broken
-broken_rule s p r left e b = chain (is_foreign p) (is_outside s.levels && not (is_allowed_outside s.rooted p)) (ends_other s.levels p) (misbinds p) (unbinds s p) (repeats s p) (is_too_deep s p) e
-  where
-    is : (c : Rule) → (Breaks s left c → IsRule s left c) → Some c ≡ Some r → IsRule s left r
-    is c f e = let same : c ≡ r = cc in subst (λ (z : Rule). Breaks s left z → IsRule s left z) same f b
-
-    chain : (a b c d f g h : Bool)
-        → cond a (Some Encoding) (cond b (Some OutsideRoot) (cond c (Some Mismatch) (cond d (Some BadNamespace) (cond f (Some UnboundPrefix) (cond g (Some TwiceAttribute) (cond h (Some TooDeep) None)))))) ≡ Some r → IsRule s left r
-    chain true b c d f g h e = is Encoding (λ x. x) e
-    chain false true c d f g h e = is OutsideRoot (λ x. x) e
-    chain false false true d f g h e = is Mismatch (λ x. x) e
-    chain false false false true f g h e = is BadNamespace (λ x. x) e
-    chain false false false false true g h e = is UnboundPrefix (λ x. x) e
-    chain false false false false false true h e = is TwiceAttribute (λ x. x) e
-    chain false false false false false false true e = is TooDeep (λ x. x) e
-    chain false false false false false false false e = absurd cc
 
 allowed_err : (s : Builder) (at : ℕ) (p : Piece) (o : Option Rule) (r : Rule) (place : ℕ) → allowed s at p o ≡ Err (r, place) → (o ≡ Some r) × (place ≡ at)
 allowed_err s at p None r place e = absurd cc
@@ -90,7 +73,7 @@ allowed_err s at p (Some c) r place e =
 piece_halts : (text cs left : List ℕ) (s : Builder) (p : Piece) (r : Rule) (place : ℕ) → IsUtf8 text → Reached text s cs → StandsRow (mode_of (nest_of s)) (p ∷ []) cs left → piece_step s (length text - width cs) p ≡ Err (r, place) → IsFault text r place
 piece_halts text cs left s p r place u k (front, back, stands, same, is) e =
     let a = allowed_err s (length text - width cs) p (broken (nest_of s) p) r place e in
-    rule_fault text cs s r place u k a.1 (broken_rule (nest_of s) p r cs a.0 (p, front, back, stands, is, a.0))
+    rule_fault text cs s r place u k a.1 (broken_rule (nest_of s) cs r (p, front, back, stands, is, a.0))
 
 -- ---- a run outside the root
 
@@ -136,7 +119,7 @@ cut mode (c ∷ a) b cs left (front, back, stands, more, is) =
 -- outside the root a character that isn't white space breaks a rule
 outside_rule : (s : Nest) (mode : Mode) (d : ℕ) (ds cs left : List ℕ) → s.levels ≡ [] → IsFalse (is_blank d) → StandsRow mode (map Character (d ∷ ds)) cs left → IsRule s cs OutsideRoot
 unfolding broken
-outside_rule s mode d ds cs left none dark (front, back, stands, more, is) = (Character d, front, back, record { spelled = stands.spelled; fits = λ inside. absurd (outside s.first s.levels none inside) }, is, breaks s.levels none)
+outside_rule s mode d ds cs left none dark (front, back, stands, more, is) = broken_rule s cs OutsideRoot (Character d, front, back, record { spelled = stands.spelled; fits = λ inside. absurd (outside s.first s.levels none inside) }, is, breaks s.levels none)
   where
     outside : (first : Bool) (levels : List Level) → levels ≡ [] → mode_in first levels ≡ modes.Inside → ⊥
     outside true [] e h = cc

@@ -13,3 +13,4 @@ pub mod Tagging
 pub mod Stepping
 pub mod Hinting
 pub mod Advancing
+mod Decided

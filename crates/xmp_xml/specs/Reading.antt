@@ -2,6 +2,7 @@
 use Rattle.std.specs.Prelude.{◌≡◌, ◌⊎◌, Bool, if◌then◌else◌, List, ℕ, Result, Ok, Err}
 use Rattle.xmp_values.specs.declared.hints.Hint.{Hint}
 use Rattle.xmp_values.specs.declared.rules.Rule.{Rule}
+use Rattle.xmp_values.specs.declared.rules.Rule.TheVariants.{Utf16, NotUtf8}
 use Rattle.xml_grammar.specs.declared.elements.Element.{Element}
 use Rattle.xmp_xml.specs.Documents.{Document}
 use Rattle.xml_grammar.specs.declared.tokens.Mode.{Mode}
@@ -37,6 +38,15 @@ AnswersDocument root declared (Err e) = e ≡ stops.Memory
 abbrev pub AnswersFault : Rule → ℕ → Result Document XmlStop → Type 0
 AnswersFault r place (Ok d) = ⊥
 AnswersFault r place (Err e) = (e ≡ stops.Memory) ⊎ (e ≡ stops.Fault r place)
+
+-- a fault of the bytes, which is told before any piece is read
+abbrev pub IsOfBytes : Rule → Type 0
+IsOfBytes r = (r ≡ Utf16) ⊎ (r ≡ NotUtf8)
+
+-- this fault is answered, with memory or without
+abbrev pub AnswersAlways : {X : Type 0} → Rule → ℕ → Result X XmlStop → Type 0
+AnswersAlways r place (Ok x) = ⊥
+AnswersAlways r place (Err e) = e ≡ stops.Fault r place
 
 -- why there is no token, with its place
 abbrev pub stop_at : TokenStop → ℕ → XmlStop

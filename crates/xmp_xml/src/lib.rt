@@ -10,6 +10,7 @@ mod builder;
 mod contents;
 mod declarations;
 mod hints;
+mod laws;
 mod named;
 mod numbers;
 mod pending;
@@ -22,6 +23,7 @@ mod stops;
 mod tags;
 
 pub use contents::Doc;
+pub use laws::document_or_fault;
 pub use reading::read;
 pub use stops::XmlStop;
 pub use xml_grammar::{Attribute, Attributes, Child, Children, Element};

@@ -11,7 +11,7 @@ ghost use Rattle.xml_tokenizer.specs.Stands.{IsBehind};
 ghost use Rattle.xmp_xml.specs.Answering.{Gives};
 ghost use Rattle.xmp_xml.specs.Building.{is_nil};
 ghost use Rattle.xmp_xml.specs.Document.{Advances, finish};
-ghost use Rattle.xmp_xml.specs.Reading.{mode_by, stop_at, Stops, IsStop, AnswersDocument, AnswersFault};
+ghost use Rattle.xmp_xml.specs.Reading.{mode_by, stop_at, Stops, IsStop, AnswersDocument, AnswersFault, IsOfBytes, AnswersAlways};
 
 use crate::builder::{Builder, new_builder};
 use crate::contents::Doc;
@@ -152,6 +152,7 @@ fn read_text<'p>(alloc: Global, text: &'p str) -> Result<(Element<'p>, Sequence<
 fn read_bytes<'p>(alloc: Global, bytes: &'p [u8]) -> Result<(Element<'p>, Sequence<Hint>), XmlStop>
     ensures document { IfOk result (λ x. IsDocument bytes.now x.0 x.1) }
     ensures stop { IfErr result (IsStop bytes.now) }
+    ensures of_bytes { (r : Rule) (place : ℕ) → IsOfBytes r → IsFault bytes.now r place → AnswersAlways r place result }
 {
     match text_of(bytes) {
         Ok(text) => read_text(alloc, text),
@@ -169,6 +170,8 @@ pub fn read<'p>(alloc: Global, text: &'p [u8]) -> Result<Doc<'p>, XmlStop>
     ensures each_document { (root : Element) (declared : List Hint) → IsDocument text.now root declared → AnswersDocument root declared result }
     // A fault that a text has is answered, unless memory runs out.
     ensures each_fault { (r : Rule) (place : ℕ) → IsFault text.now r place → AnswersFault r place result }
+    // A text in UTF-16, and bytes that aren't UTF-8, are answered so even where no memory is left.
+    ensures of_bytes { (r : Rule) (place : ℕ) → IsOfBytes r → IsFault text.now r place → AnswersAlways r place result }
 {
     match read_bytes(alloc, text) {
         Ok((root, list)) => {
