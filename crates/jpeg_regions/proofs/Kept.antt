@@ -7,8 +7,8 @@ use Rattle.xmp_values.specs.declared.rules.Rule.{Rule}
 use Rattle.jpeg_regions.specs.declared.kind.RegionKind.{RegionKind}
 use Rattle.jpeg_regions.specs.declared.kind.RegionKind.TheVariants.{Main, Portion, Exif, Resources, Mpf, App0, Other, Alone, Tail}
 use Rattle.jpeg_regions.specs.declared.reading.Found.{Found}
-use Rattle.jpeg_regions.specs.declared.cutting.JpegStop.{JpegStop}
-use Rattle.jpeg_regions.specs.declared.cutting.JpegStop.TheVariants.{Fault, Memory}
+use Rattle.xmp_values.specs.declared.stops.PlaceStop.{PlaceStop}
+use Rattle.xmp_values.specs.declared.stops.PlaceStop.TheVariants.{Fault, Memory}
 use Rattle.jpeg_regions.specs.Jpeg.{Segment, Region, text, region, placed, IsInner, Cuts, Broken, Breaks}
 use Rattle.jpeg_regions.specs.Reads.{FoundInner, FoundTail, region_of, payload_end}
 use Rattle.jpeg_regions.specs.Cutting.{Tiles, Underway, BeginsJpeg, CutAnswer, TakeAnswer}
@@ -100,6 +100,6 @@ underway_none file e = record {
 }
 
 -- what stops a step stops the cut
-pub stopped : (file : List ℕ) (found : List Found) (stop : JpegStop) → TakeAnswer file found (Err stop) → CutAnswer file (Err stop)
+pub stopped : (file : List ℕ) (found : List Found) (stop : PlaceStop) → TakeAnswer file found (Err stop) → CutAnswer file (Err stop)
 stopped file found (Fault rule place) a = inl a
 stopped file found Memory a = tt

@@ -8,8 +8,8 @@ use Rattle.std.specs.Prelude.{IfOk, slice_get}
 use Rattle.xmp_base.proofs.Names.{get-insert_same, get-insert_other}
 use Rattle.xmp_base.specs.Device.{DeskState, Lens, SizeCall, Told, OthersKeep, bytes_of, is_known, len_of, size_of}
 use Rattle.xmp_values.specs.declared.rules.Rule.TheVariants.{NoTail}
-use Rattle.jpeg_regions.specs.declared.from_desk.CutStop.{CutStop}
-use Rattle.jpeg_regions.specs.declared.from_desk.CutStop.TheVariants.{Fault, Device, Memory}
+use Rattle.xmp_values.specs.declared.stops.DeviceStop.{DeviceStop}
+use Rattle.xmp_values.specs.declared.stops.DeviceStop.TheVariants.{Fault, Device, Memory}
 use Rattle.jpeg_regions.specs.declared.reading.Found.{Found}
 use Rattle.jpeg_regions.specs.Jpeg.{Region, no_tail, mains, is_main}
 use Rattle.jpeg_regions.specs.Cutting.{BeginsJpeg, Tiles}
@@ -55,7 +55,7 @@ module _ (s t : DeskState) (name : List ℕ) (n : ℕ) (size : SizeCall s t name
     };
   }
 
-  pub cut_done : (u : DeskState) (result : Result (List Region) CutStop) → CutKnownCall t u name n result → CutFromCall s u name result
+  pub cut_done : (u : DeskState) (result : Result (List Region) DeviceStop) → CutKnownCall t u name n result → CutFromCall s u name result
   cut_done u result call = let len : len_of u name ≡ n = ap (λ (m : Lens). unwrap_or (get m name) 0) call.lens ∙ size_len in record {
     calls = calls_sized u call.calls;
     others = λ q apart. ap (λ (m : Lens). get m q) call.lens ∙ others q apart;
@@ -79,7 +79,7 @@ cut_low s name n full begins h = record {
 }
 
 -- what stops an advance stops the cut
-pub advance_stopped : (file : List ℕ) (found : List Found) (stop : CutStop) → AdvanceAnswer file found (Err stop) → CutFromAnswer file (Err stop)
+pub advance_stopped : (file : List ℕ) (found : List Found) (stop : DeviceStop) → AdvanceAnswer file found (Err stop) → CutFromAnswer file (Err stop)
 advance_stopped file found (Fault rule place) a = inl a
 advance_stopped file found Device a = tt
 advance_stopped file found Memory a = tt

@@ -1,12 +1,12 @@
 -- What is known of a file while it is cut.
-use Rattle.std.specs.Prelude.{◌≡◌, ℕ, ◌+◌, ◌<◌, ◌≤◌, List, [], ◌∷◌, ◌++◌, length, take, drop, map, flat_map, Ok, Err, Some, None}
+use Rattle.std.specs.Prelude.{◌≡◌, ℕ, ◌+◌, ◌<◌, ◌≤◌, List, [], ◌∷◌, ◌++◌, length, take, drop, map, flat_map, Some, None}
 use Rattle.std.specs.declared.option.Option.{Option}
 use Rattle.std.specs.declared.result.Result.{Result}
 use Rattle.std.specs.List.{AllByRecursion}
 use Rattle.jpeg_regions.specs.declared.reading.Found.{Found}
 use Rattle.jpeg_regions.specs.declared.reading.Reading.{Reading}
-use Rattle.jpeg_regions.specs.declared.cutting.JpegStop.{JpegStop}
-use Rattle.jpeg_regions.specs.declared.cutting.JpegStop.TheVariants.{Fault, Memory}
+use Rattle.xmp_values.specs.declared.stops.PlaceStop.{PlaceStop}
+use Rattle.xmp_values.specs.Stops.{Answers, place_of}
 use Rattle.jpeg_regions.specs.Jpeg.{Segment, Region, text, placed, IsInner, Cuts, Broken, Jpeg, FirstFault, FaultIn}
 use Rattle.jpeg_regions.specs.Reads.{Reads, region_of, work}
 
@@ -21,10 +21,8 @@ Tiles at end (r ∷ rs) = (r.range.start ≡ at) × (at < r.payload.start) × (r
     × Tiles r.range.end end rs
 
 -- the list of the file, or its first fault
-abbrev pub CutAnswer : List ℕ → Result (List Region) JpegStop → Type 0
-CutAnswer file (Ok regions) = Jpeg file regions
-CutAnswer file (Err (Fault rule place)) = FirstFault file rule place
-CutAnswer file (Err Memory) = Unit {0}
+abbrev pub CutAnswer : List ℕ → Result (List Region) PlaceStop → Type 0
+CutAnswer file result = Answers place_of result (Jpeg file) (λ f. FirstFault file f.0 f.1)
 
 -- up to a place the file is FF D8 and these regions, none of which is the tail
 pub record Underway (file : List ℕ) (found : List Found) (start : ℕ) : Type 0 where
@@ -49,12 +47,8 @@ left (Some reading) = 1 + work reading.len reading.at reading.wants
 left None = 0
 
 -- a fault of a file of `len` bytes, whatever these are
-abbrev pub IsFaultIn : {A : Type 0} → ℕ → Result A JpegStop → Type 0
-IsFaultIn len (Ok _) = Unit {0}
-IsFaultIn len (Err (Fault rule place)) = FaultIn len place rule
-IsFaultIn len (Err Memory) = Unit {0}
+abbrev pub IsFaultIn : {A : Type 0} → ℕ → Result A PlaceStop → Type 0
+IsFaultIn len result = Answers place_of result (λ _. Unit {0}) (λ f. FaultIn len f.1 f.0)
 
-abbrev pub TakeAnswer : List ℕ → List Found → Result (Option Reading) JpegStop → Type 0
-TakeAnswer file found (Ok next) = CutSoFar file found next
-TakeAnswer file found (Err (Fault rule place)) = Broken file rule place
-TakeAnswer file found (Err Memory) = Unit {0}
+abbrev pub TakeAnswer : List ℕ → List Found → Result (Option Reading) PlaceStop → Type 0
+TakeAnswer file found result = Answers place_of result (CutSoFar file found) (λ f. Broken file f.0 f.1)

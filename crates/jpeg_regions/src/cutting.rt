@@ -3,19 +3,10 @@ ghost use Rattle.std.specs.Prelude.{◌≡◌, ℕ, ◌+◌, ◌-◌, ◌≤◌,
 ghost use Rattle.jpeg_regions.specs.Wanted.{count_of};
 ghost use Rattle.jpeg_regions.specs.Cutting.{BeginsJpeg, CutAnswer, CutSoFar, IsFaultIn, Numbers, TakeAnswer, Tiles, left};
 
+use crate::JpegStop;
 use crate::list::Regions;
 use crate::reading::{Found, Reading, Step};
 use std::alloc::Global;
-use xmp_values::Rule;
-
-/// Why the bytes of a file give no list of regions.
-#[derive(Clone, Copy, Debug, PartialEq, Eq)]
-pub enum JpegStop {
-    /// The first broken rule, of 10 to 14, with its place in the file.
-    Fault(Rule, u64),
-    /// Memory was wanted, and there was none.
-    Memory,
-}
 
 /// Takes the bytes that were wanted, and answers how to go on: not at all behind the tail.
 pub fn take(
@@ -50,7 +41,8 @@ pub fn take(
 }
 
 impl Regions {
-    /// The regions of a file in memory, which begins FF D8, or its first fault (ISO 10918-1, B.1.1).
+    /// The regions of a file in memory, which begins FF D8, or its first
+    /// fault, of rules 10 to 14, with its place in the file (ISO 10918-1, B.1.1).
     pub fn cut(alloc: Global, bytes: &[u8]) -> Result<Regions, JpegStop>
         requires { BeginsJpeg bytes.now }
         ensures answer { CutAnswer bytes.now result }

@@ -2,28 +2,19 @@
 ghost use Rattle.std.specs.Prelude.{◌≡◌, ℕ, ◌+◌, ◌-◌, ◌≤◌, ◌<◌, ◌^◌, List, length, IfOk, IsTrue, min, Err, Some};
 ghost use Rattle.xmp_base.specs.Device.{Told, Rose, bytes_of, is_known, len_of};
 ghost use Rattle.xmp_base.specs.Windows.{ReadInside};
+ghost use Rattle.xmp_values.specs.declared.stops.DeviceStop.TheVariants.{Device};
 ghost use Rattle.jpeg_regions.specs.Jpeg.{Cuts};
 ghost use Rattle.jpeg_regions.specs.Wanted.{count_of};
 ghost use Rattle.jpeg_regions.specs.Cutting.{BeginsJpeg, CutSoFar, Numbers, Tiles, left};
 ghost use Rattle.jpeg_regions.specs.FromDesk.{AdvanceAnswer, CutCalls, CutFromCall, CutKnownCall, StopsIn};
 
-use crate::cutting::{JpegStop, take};
+use crate::cutting::take;
 use crate::list::Regions;
 use crate::reading::{Found, Reading};
+use crate::{CutStop, JpegStop};
 use std::alloc::Global;
 use xmp_base::{Desk, Failed, SizeStop, fill_from};
 use xmp_values::Rule;
-
-/// Why a file of a device gives no list of regions.
-#[derive(Clone, Copy, Debug, PartialEq, Eq)]
-pub enum CutStop {
-    /// The first broken rule, of 10 to 14, with its place in the file.
-    Fault(Rule, u64),
-    /// A call of the device failed, and was counted.
-    Device,
-    /// Memory was wanted, and there was none.
-    Memory,
-}
 
 /// Reads the bytes that are wanted, and takes them.
 fn advance<D: Desk>(
@@ -42,7 +33,7 @@ fn advance<D: Desk>(
     ensures answer { Told (D.state desk.old).files (λ files. length (bytes_of files name.now) ≡ reading.len
         → CutSoFar (bytes_of files name.now) found.old.items (Some reading) → AdvanceAnswer (bytes_of files name.now) found.new.items result) }
     ensures fault { StopsIn reading.len result }
-    ensures device { result ≡ Err CutStop.Device → Rose (D.state desk.old).faults (D.state desk.new).faults }
+    ensures device { result ≡ Err Device → Rose (D.state desk.old).faults (D.state desk.new).faults }
 {
     let wanted = reading.wanted();
     let mut buffer = [0u8; 75];
@@ -61,7 +52,7 @@ fn advance<D: Desk>(
 impl Regions {
     /// The regions of a file of a device. Of a region no byte is read behind the 75th of its
     /// payload, and of the tail none behind its marker. A file that has gone since it was known
-    /// has no byte left.
+    /// has no byte left. A fault is the first broken rule, of 10 to 14, with its place in the file.
     pub fn cut_from<D: Desk>(alloc: Global, desk: &mut D, name: &str) -> Result<Regions, CutStop>
         requires known { IsTrue (is_known (D.state desk.old) name.now) }
         requires begins { Told (D.state desk.old).files (λ files. BeginsJpeg (bytes_of files name.now)) }

@@ -17,9 +17,8 @@ mod reading;
 mod tests;
 mod writing;
 
-pub use cutting::JpegStop;
-pub use from_desk::CutStop;
 pub use kind::RegionKind;
 pub use laws::{exchange, one_answer};
 pub use list::Regions;
 pub use writing::payload_mut;
+pub use xmp_values::{DeviceStop as CutStop, PlaceStop as JpegStop};

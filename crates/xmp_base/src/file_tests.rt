@@ -3,10 +3,14 @@ ghost use Rattle.std.specs.Prelude.{◌≢◌, ◌<◌, length};
 
 use crate::{
     Bytes, Desk, Failed, FileDesk, FileSpan, Memory, MemoryDesk, Sink, SizeStop, Span, StdSink,
-    Words, append, copy_range, window,
+    Words, append, copy_range, put_inside, window,
 };
 use std::alloc::Global;
+use std::fs::Permissions;
 use std::io::{ErrorKind, Write};
+use std::os::unix::fs::PermissionsExt;
+use std::rt::Files;
+use std::test::Fail;
 use std::{fs, io};
 
 /// Puts a whole file into one that it creates, in pieces of the buffer's length.
@@ -45,6 +49,29 @@ fn grow<D: Desk>(desk: &mut D, name: &str, piece: &[u8]) -> Result<(), Failed> {
     }
 }
 
+/// Puts a piece inside a file, where there is room for it.
+fn put<D: Desk>(desk: &mut D, name: &str, at: u64, piece: &[u8]) -> Result<(), Failed> {
+    match desk.size(name) {
+        Ok(size) if at <= size && piece.len() as u64 <= size - at => {
+            put_inside(desk, name, at, piece)
+        }
+        _ => Err(Failed),
+    }
+}
+
+/// A desk of real files, for these names.
+fn desk_of<'r, R: Files>(
+    rt: &'r R,
+    alloc: Global,
+    names: &[&str],
+) -> Result<FileDesk<'r, R>, Memory> {
+    let mut words = Words::new(alloc);
+    for name in names {
+        words.push(name)?;
+    }
+    FileDesk::new(rt, alloc, &words)
+}
+
 /// A desk on which `from` was copied to `to` until the call of this number failed.
 fn copy_failing(alloc: Global, call: u64) -> Result<MemoryDesk, Memory> {
     let mut desk = MemoryDesk::new(alloc);
@@ -80,35 +107,69 @@ fn copies_until_a_call_fails(rt: HostRuntime) {
 }
 
 #[test]
-fn reaches_real_files(rt: HostRuntime) {
-    assert!(rt; fs::write(&rt, "in.bin", "12345").is_ok());
-    assert!(rt; fs::write(&rt, "out.bin", "an older text").is_ok());
-    let mut words = Words::new(rt.alloc());
-    for word in ["in.bin", "out.bin", "none.bin"] {
-        assert!(rt; words.push(word).is_ok());
-    }
-    let Ok(mut desk) = FileDesk::new(&rt, rt.alloc(), &words) else {
-        panic!(rt; "memory");
-    };
+fn reaches_real_files(rt: HostRuntime) -> Result<(), Fail> {
+    fs::write(&rt, "in.bin", "12345")?;
+    fs::write(&rt, "out.bin", "an older text")?;
+    // no system has a name of so many letters
+    let long = "n".repeat(rt.alloc(), 5000)?;
+    let names = ["in.bin", "out.bin", "none.bin", long.as_str()];
+    let mut desk = desk_of(&rt, rt.alloc(), &names)?;
     assert!(rt; copy_file(&mut desk, "in.bin", "out.bin", &mut [0; 2]).is_ok());
     for (name, size) in [
         ("in.bin", Ok(5)),
         ("out.bin", Ok(5)),
         ("none.bin", Err(SizeStop::Absent)),
         ("other.bin", Err(SizeStop::Failed)),
+        (long.as_str(), Err(SizeStop::Failed)),
     ] {
         assert_eq!(rt; desk.size(name), size);
         let bytes = bytes_at(rt.alloc(), &mut desk, name, 0, 5);
-        assert_eq!(rt;
-            bytes.is_some_and(|bytes| bytes.as_slice() == "12345".as_bytes()),
-            size.is_ok()
+        assert_eq!(rt; bytes.is_some(), size.is_ok());
+        assert!(rt; bytes.is_none_or(|bytes| bytes.as_slice() == "12345".as_bytes()));
+    }
+    fs::remove_file(&rt, "in.bin")?;
+    fs::remove_file(&rt, "out.bin")?;
+    Ok(())
+}
+
+/// One handle is used at one place after another, and twice at one place. A file that may only be
+/// read is read, and one that was opened for reading is written too.
+#[test]
+fn a_handle_goes_to_its_place(rt: HostRuntime) -> Result<(), Fail> {
+    for name in ["open.bin", "locked.bin"] {
+        fs::write(&rt, name, "abcdef")?;
+    }
+    fs::set_permissions(&rt, "locked.bin", Permissions::from_mode(0o444))?;
+    let mut desk = desk_of(&rt, rt.alloc(), &["open.bin", "locked.bin"])?;
+    for (name, at, text) in [
+        ("locked.bin", 3, "def"),
+        ("locked.bin", 1, "bcd"),
+        ("locked.bin", 1, "bcd"),
+        ("open.bin", 1, "bcd"),
+    ] {
+        let bytes = bytes_at(rt.alloc(), &mut desk, name, at, 3);
+        assert!(rt;
+            bytes.is_some_and(|bytes| bytes.as_slice() == text.as_bytes()),
+            "{name} at {at}"
         );
     }
-    // a file that was opened for reading is written too
-    assert!(rt; grow(&mut desk, "in.bin", b"6").is_ok());
-    let last = bytes_at(rt.alloc(), &mut desk, "in.bin", 3, 3);
-    assert!(rt; last.is_some_and(|bytes| bytes.as_slice() == "456".as_bytes()));
-    assert!(rt; fs::remove_file(&rt, "in.bin").is_ok() && fs::remove_file(&rt, "out.bin").is_ok());
+    for (at, piece) in [(3, "XY"), (1, "Y"), (1, "Z"), (4, "V")] {
+        assert!(rt;
+            put(&mut desk, "open.bin", at, piece.as_bytes()).is_ok(),
+            "at {at}"
+        );
+    }
+    assert!(rt; grow(&mut desk, "open.bin", b"g").is_ok());
+    for (at, text) in [(4, "Vfg"), (0, "aZcXVfg"), (0, "aZcXVfg")] {
+        let bytes = bytes_at(rt.alloc(), &mut desk, "open.bin", at, text.len());
+        assert!(rt;
+            bytes.is_some_and(|bytes| bytes.as_slice() == text.as_bytes()),
+            "at {at}"
+        );
+    }
+    fs::remove_file(&rt, "open.bin")?;
+    fs::remove_file(&rt, "locked.bin")?;
+    Ok(())
 }
 
 /// A writer that takes all and can hand on nothing.

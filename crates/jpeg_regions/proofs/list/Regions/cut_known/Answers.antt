@@ -7,7 +7,7 @@ use Rattle.xmp_values.specs.declared.rules.Rule.{Rule}
 use Rattle.xmp_base.proofs.Calls.{rose_after}
 use Rattle.jpeg_regions.specs.Jpeg.{FaultIn, Region, two_packets}
 use Rattle.jpeg_regions.specs.Reads.{region_of}
-use Rattle.jpeg_regions.specs.declared.from_desk.CutStop.TheVariants.{Device}
+use Rattle.xmp_values.specs.declared.stops.DeviceStop.TheVariants.{Device}
 use Rattle.jpeg_regions.specs.FromDesk.{StopsIn}
 use Rattle.jpeg_regions.proofs.Kept.{underway_none}
 use Rattle.jpeg_regions.proofs.Near.{calls_none, calls_more}
