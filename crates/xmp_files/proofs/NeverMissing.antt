@@ -117,7 +117,7 @@ reading_there : (root : Element) (hints : List Hint) (place : ℕ) → reading r
 reading_there root hints place e = reading_by root hints place (fault_of most_levels root) refl (visits_there (visits most_levels root)) e
 
 never_missing : (text : List ℕ) (place : ℕ) → Means text (Err (NoFile, place)) → ⊥
-never_missing text place (inl fault) = fault.rule
+never_missing text place (inl fault) = let none : false ≡ true = fault.rule.0.5 in cc
 never_missing text place (inr read) = reading_there read.0 read.1 place read.3
 
 text_there : (text : List ℕ) (read : Result Meaning (Rule × ℕ)) (fault : Fault) → Means text read → (let e : Result Meaning Fault = Err fault in e) ≡ in_main read → fault.rule ≡ NoFile → ⊥
