@@ -1,2 +1,9 @@
 pub mod NameTests
 pub mod TestHints
+pub mod Refills
+pub mod Members
+pub mod Items
+pub mod Levels
+pub mod Steps
+pub mod Kept
+pub mod WholeTrees

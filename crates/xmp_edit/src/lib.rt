@@ -6,13 +6,24 @@
 //! and on `known_prefixes`. Paths of one name alone are built yet.
 #![tactic(auto)]
 
+mod action;
+mod changing;
+mod edit;
 mod finding;
+mod laws;
 mod names;
 mod path;
+mod places;
+mod script;
 mod stops;
 #[cfg(test)]
 mod tests;
 
+pub use action::Action;
+pub use edit::Edit;
 pub use finding::find;
+pub use laws::edit_keeps;
 pub use path::Path;
+pub use script::{Script, apply};
 pub use stops::PathStop;
+pub use xmp_values::{PlaceStop as EditStop, PlaceStop as ScriptStop};
