@@ -5,7 +5,8 @@ use Rattle.std.specs.List.{list_all}
 use Rattle.std.proofs.lemmas.Str.{encodes-append}
 use Rattle.xmp_values.specs.Characters.{is_blank}
 use Rattle.xml_grammar.specs.declared.tokens.Mode.{Mode}
-use Rattle.xml_grammar.specs.Pieces.{Piece, Character, Stands, StandsRow, later}
+use Rattle.xml_grammar.specs.Pieces.{Piece, Character, Stands}
+use Rattle.xml_grammar.specs.Rows.{StandsRow, later}
 use Rattle.xml_grammar.specs.Nesting.{Level, Nest, mode_of, mode_in, enter, is_outside, broken}
 use Rattle.xml_grammar.specs.Trees.{Placed, Event, Opens, Words, Closes, put, put_inside, events_of}
 use Rattle.xml_grammar.specs.Documents.{width, Reads, nest_after}

@@ -6,3 +6,4 @@ pub mod Trees
 pub mod Documents
 pub mod Sound
 pub mod Heights
+pub mod Rows

@@ -63,12 +63,12 @@ enter s (Start tag) = record { first = false; levels = opened tag.empty (record 
 enter s (End name) = record { first = false; levels = outer s.levels; rooted = s.rooted }
 enter s piece = record { first = false; levels = s.levels; rooted = s.rooted }
 
--- an XML declaration that names another encoding than UTF-8, in any case
+-- an XML declaration that names another encoding than UTF-8, in any case; the profile reads no other (section 4.3.3)
 abbrev pub is_foreign : Piece → Bool
 is_foreign (Declaration (Some encoding)) = not (str_eq_ignore_ascii_case encoding (codes "utf-8"))
 is_foreign piece = false
 
--- may it stand outside the root
+-- may it stand outside the root: production 1, document, with 22, prolog, and 27, Misc
 abbrev pub is_allowed_outside : Bool → Piece → Bool
 is_allowed_outside rooted (Declaration encoding) = true
 is_allowed_outside rooted Instruction = true
@@ -80,17 +80,17 @@ is_allowed_outside rooted (Reference c) = false
 is_allowed_outside rooted LineEnd = true
 is_allowed_outside rooted (Character c) = is_blank c
 
--- an end tag whose name is spelled otherwise than that of the innermost open element
+-- an end tag whose name is spelled otherwise than that of the innermost open element (section 3, element type match)
 abbrev pub ends_other : List Level → Piece → Bool
 ends_other (level ∷ levels) (End name) = not (same_qname level.name name)
 ends_other levels piece = false
 
--- a tag with a declaration that isn't allowed
+-- a tag with a declaration that isn't allowed (Namespaces in XML 1.0, section 3)
 abbrev pub misbinds : Piece → Bool
 misbinds (Start tag) = list_any is_misbound (bindings_of tag.attributes)
 misbinds piece = false
 
--- a prefix of the tag's name or of an attribute that isn't bound
+-- a prefix of the tag's name or of an attribute that isn't bound (Namespaces in XML 1.0, section 5, prefix declared)
 abbrev pub has_unbound : List Binding → Tag → Bool
 has_unbound bound tag = is_unbound bound tag.name.prefix || list_any (λ (a : RawAttribute). is_unbound bound a.name.prefix) (plain_attributes tag.attributes)
 
@@ -103,14 +103,15 @@ abbrev pub has_twice : {A : Type 0} → (A → A → Bool) → List A → Bool
 has_twice same [] = false
 has_twice same (x ∷ xs) = list_any (same x) xs || has_twice same xs
 
--- two attributes that are spelled the same, or have the same namespace and local part
+-- two attributes that are spelled the same (section 3.1, unique attributes), or have the same namespace and local part
+-- (Namespaces in XML 1.0, section 6.3)
 abbrev pub repeats : Nest → Piece → Bool
 repeats s (Start tag) =
     has_twice (λ (a b : RawAttribute). same_qname a.name b.name) tag.attributes
     || has_twice (λ (a b : Attribute). same_name a.name b.name) (expanded_attributes (bound_at s tag) tag.attributes)
 repeats s piece = false
 
--- a tag whose element would be at depth 101
+-- a tag whose element would be at depth 101, which is a limit of this profile
 abbrev pub is_too_deep : Nest → Piece → Bool
 is_too_deep s (Start tag) = nat_le 100 (length s.levels)
 is_too_deep s piece = false

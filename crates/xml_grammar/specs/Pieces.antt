@@ -1,12 +1,10 @@
 -- The pieces of a text, how each is spelled, and where it may stand. Productions are those of XML 1.0 (fifth edition).
-use Rattle.std.specs.Prelude.{◌≡◌, ◌≢◌, ℕ, Bool, true, false, ◌⊎◌, IsTrue, List, [], ◌∷◌, ◌++◌, Option, codes, chars, map, encode_utf8_all}
+use Rattle.std.specs.Prelude.{◌≡◌, ◌≢◌, ℕ, Bool, true, false, ◌⊎◌, IsTrue, List, [], ◌∷◌, ◌++◌, Option, codes, encode_utf8_all}
 use Rattle.xmp_values.specs.Characters.{is_char}
 use Rattle.xml_grammar.specs.declared.tags.QName.{QName}
 use Rattle.xml_grammar.specs.declared.tags.Tag.{Tag}
 use Rattle.xml_grammar.specs.declared.tokens.Mode.{Mode}
 use Rattle.xml_grammar.specs.declared.tokens.Mode.TheVariants as modes
-use Rattle.xml_grammar.specs.declared.tokens.Token.{Token}
-use Rattle.xml_grammar.specs.declared.tokens.Token.TheVariants as tokens
 use Rattle.xml_grammar.specs.Spelling.{BeginsWith, Lacks, AreChars, AreBlank, SpellsQName, SpellsReference, SpellsAttributes, IsVersion, SpellsEncoding, IsStandalone, IsTarget, IsInstructionText, line_ends}
 
 -- the least part of a text that means something
@@ -73,26 +71,3 @@ pub record Stands (mode : Mode) (piece : Piece) (front back : List ℕ) : Type 0
 -- some piece stands at the front of a text
 abbrev pub HasPiece : Mode → List ℕ → Type 0
 HasPiece mode text = (piece : Piece) × (front : List ℕ) × (back : List ℕ) × Stands mode piece front back × (text ≡ front ++ back)
-
--- where the next piece stands, if none of them is a tag
-abbrev pub later : Mode → Mode
-later modes.Start = modes.Outside
-later modes.Outside = modes.Outside
-later modes.Inside = modes.Inside
-
--- pieces that are no tags stand one after the other, before what is left
-abbrev pub StandsRow : Mode → List Piece → List ℕ → List ℕ → Type 0
-StandsRow mode [] text left = text ≡ left
-StandsRow mode (p ∷ ps) text left = (front : List ℕ) × (back : List ℕ) × Stands mode p front back × StandsRow (later mode) ps back left × (text ≡ front ++ back)
-
--- the pieces that a token stands for
-abbrev pub pieces_of : Token → List Piece
-pieces_of (tokens.Declaration encoding) = Declaration encoding ∷ []
-pieces_of tokens.Instruction = Instruction ∷ []
-pieces_of tokens.Comment = Comment ∷ []
-pieces_of (tokens.Cdata text) = Cdata text ∷ []
-pieces_of (tokens.Start tag) = Start tag ∷ []
-pieces_of (tokens.End name) = End name ∷ []
-pieces_of (tokens.Reference c) = Reference c ∷ []
-pieces_of tokens.LineEnd = LineEnd ∷ []
-pieces_of (tokens.Run text) = map Character (chars text)

@@ -1,6 +1,7 @@
 -- Which namespace a name is in (Namespaces in XML 1.0).
 use Rattle.std.specs.Prelude.{ℕ, Bool, true, false, not, ◌&&◌, ◌||◌, if◌then◌else◌, is_none, List, [], ◌∷◌, map, Option, Some, None, codes}
 use Rattle.std.specs.List.{filter, filter_map}
+use Rattle.std.specs.Option.{option_eq, unwrap_or}
 use Rattle.std.specs.Str.{bytes_eq}
 use Rattle.xmp_values.specs.declared.text.Name.{Name}
 unfoldable pub use Rattle.xmp_values.specs.Spaces.{xml_space, xmlns_space}
@@ -34,10 +35,7 @@ abbrev pub plain_attributes : List RawAttribute → List RawAttribute
 plain_attributes = filter (λ a. is_none (binding_of a))
 
 abbrev pub same_prefix : Option (List ℕ) → Option (List ℕ) → Bool
-same_prefix None None = true
-same_prefix None (Some q) = false
-same_prefix (Some p) None = false
-same_prefix (Some p) (Some q) = bytes_eq p q
+same_prefix = option_eq bytes_eq
 
 -- what is bound to a prefix by declarations, of which the innermost comes first
 abbrev pub bound_to : List Binding → Option (List ℕ) → Option (List ℕ)
@@ -45,8 +43,7 @@ bound_to [] prefix = None
 bound_to (b ∷ bs) prefix = if same_prefix b.prefix prefix then Some b.space else bound_to bs prefix
 
 abbrev pub or_nothing : Option (List ℕ) → List ℕ
-or_nothing None = []
-or_nothing (Some space) = space
+or_nothing space = unwrap_or space []
 
 -- an element without prefix is in the default namespace, if there is one (section 6.2)
 abbrev pub element_name : List Binding → QName → Name

@@ -146,11 +146,12 @@ abbrev pub SpellsGiven : List ℕ → List ℕ → List ℕ → Type 0
 SpellsGiven word value text =
     (gap : List ℕ) × (equals : List ℕ) × (quote : ℕ) × IsGap gap × IsEquals equals × IsQuote quote × (text ≡ gap ++ word ++ equals ++ quoted quote value)
 
--- productions 24 and 26, VersionInfo
+-- productions 24, VersionInfo, and 26, VersionNum
 abbrev pub IsVersion : List ℕ → Type 0
 IsVersion text = (digits : List ℕ) × (digits ≢ []) × IsTrue (list_all (is_digit 10) digits) × SpellsGiven (codes "version") (codes "1." ++ digits) text
 
--- production 80, EncodingDecl, of name characters, at least one
+-- production 80, EncodingDecl. Wider than production 81, EncName: the name is any name characters, at least one; another
+-- name than UTF-8 is then refused as such.
 abbrev pub SpellsEncoding : Option (List ℕ) → List ℕ → Type 0
 SpellsEncoding None text = text ≡ []
 SpellsEncoding (Some encoding) text =

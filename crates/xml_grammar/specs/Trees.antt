@@ -1,6 +1,6 @@
 -- The element tree of nested pieces, as a list of what opens, is read and closes.
 use Rattle.std.specs.Prelude.{ℕ, Bool, true, false, not, List, [], ◌∷◌, ◌++◌, encode_utf8, Option, Some, None}
-use Rattle.std.specs.List.{filter, filter_map}
+use Rattle.std.specs.List.{filter, filter_map, flat_map}
 use Rattle.std.specs.Str.{bytes_eq}
 use Rattle.xmp_values.specs.declared.text.Name.{Name}
 use Rattle.xmp_values.specs.declared.hints.Hint.{Hint}
@@ -23,8 +23,7 @@ pub data Event : Type 0 where
   Closes : Event
 
 abbrev pub joined : List (List Event) → List Event
-joined [] = []
-joined (es ∷ more) = es ++ joined more
+joined = flat_map (λ (es : List Event). es)
 
 abbrev pub child_events : Child-F (List Event) (List Event) → List Event
 child_events (layer.Element inside) = inside

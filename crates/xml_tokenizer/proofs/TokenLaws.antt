@@ -15,7 +15,8 @@ use Rattle.xml_grammar.specs.declared.tokens.Mode.TheVariants as modes
 use Rattle.xml_grammar.specs.declared.tokens.Token.{Token}
 use Rattle.xml_grammar.specs.declared.tokens.Token.TheVariants as tokens
 use Rattle.xml_grammar.specs.Spelling.{BeginsWith, line_ends}
-use Rattle.xml_grammar.specs.Pieces.{Piece, Declaration, Instruction, Comment, Cdata, Start, End, Reference, LineEnd, Character, Spells, Fits, HasPiece, StandsRow, later, pieces_of, tag_close}
+use Rattle.xml_grammar.specs.Pieces.{Piece, Declaration, Instruction, Comment, Cdata, Start, End, Reference, LineEnd, Character, Spells, Fits, HasPiece, tag_close}
+use Rattle.xml_grammar.specs.Rows.{StandsRow, later, pieces_of}
 use Rattle.xml_grammar.proofs.Splits.{both, both_again, cons_same, head_same, tail_same, not_both}
 use Rattle.xml_grammar.proofs.Parts.{apart, qname_starts}
 use Rattle.xml_tokenizer.specs.Classes.{is_plain}

@@ -4,7 +4,7 @@ ghost use Rattle.std.specs.Prelude.{◌≡◌};
 ghost use Rattle.xml_tokenizer.specs.declared.stops.Miss.TheVariants as misses;
 
 use std::alloc::AllocError;
-use xmp_values::{Memory, Rule};
+use xmp_values::Memory;
 
 /// Why a step read nothing.
 #[derive(Debug, Drop)]
@@ -28,12 +28,4 @@ impl From<AllocError> for Miss {
     fn from(_error: AllocError) -> Miss {
         Miss::Memory
     }
-}
-
-/// Why there is no token.
-#[derive(Debug, Drop)]
-pub enum TokenStop {
-    Memory,
-    /// The least rule that holds for what stands there; `Unfinished` where nothing is left.
-    Fault(Rule),
 }

@@ -2,9 +2,11 @@
 
 ghost use Rattle.std.specs.Prelude.{◌≡◌, ◌≢◌, [], IfOk, IfErr, encode_utf8_all};
 ghost use Rattle.std.specs.Str.{chars};
-ghost use Rattle.xml_grammar.specs.Pieces.{StandsRow, pieces_of};
+ghost use Rattle.xmp_values.specs.Stops.{Stops, rule_of};
+ghost use Rattle.xmp_values.specs.declared.rules.Rule.TheVariants.{Unfinished};
+ghost use Rattle.xml_grammar.specs.Rows.{StandsRow, pieces_of};
 ghost use Rattle.xml_tokenizer.specs.Faults.{markup_rule, rule_at};
-ghost use Rattle.xml_tokenizer.specs.Stands.{Fails, FailsAtEnd, IsBehind};
+ghost use Rattle.xml_tokenizer.specs.Stands.{IsRuleIn, IsBehind};
 ghost use Rattle.xml_tokenizer.specs.Tokens.{is_start, is_inside, question_at, section_at, markup_at, plain_front, plain_back, run_at, token_at};
 ghost use Rattle.xml_tokenizer.specs.Steps.{Gives};
 
@@ -13,12 +15,12 @@ use crate::references::reference_of;
 use crate::runs::{after, begins, behind, next_char};
 use crate::searches::{before, plain_text};
 use crate::sections::{cdata_of, past_comment, past_instruction};
-use crate::stops::{Miss, TokenStop};
+use crate::stops::Miss;
 use crate::tags::{end_of, start_of};
 use crate::values::after_feed;
 use std::alloc::Global;
 use xml_grammar::{Mode, Token};
-use xmp_values::{Rule, Text};
+use xmp_values::{Rule, RuleStop, Text};
 
 fn is_start(mode: Mode) -> bool
     ensures { result ≡ is_start mode }
@@ -156,19 +158,19 @@ fn rule_of(text: &str) -> Rule
 }
 
 /// The token at the front of a text, and the text after it.
-pub fn token_of(alloc: Global, mode: Mode, text: &str) -> Result<(Token<'_>, &str), TokenStop>
+pub fn token_of(alloc: Global, mode: Mode, text: &str) -> Result<(Token<'_>, &str), RuleStop>
     // Its pieces stand there, one after the other, before what is left.
     ensures stands { IfOk result (λ x. StandsRow mode (pieces_of x.0) (chars text.now) (chars x.1.now)) }
     // It has one piece at least, and takes one byte at least.
     ensures some { IfOk result (λ x. (pieces_of x.0 ≢ []) × IsBehind text.now x.1.now) }
     // Without a token no piece stands there, and the rule goes by what the text begins with.
-    ensures fault { IfErr result (Fails mode (chars text.now)) }
+    ensures fault { IfErr result (λ e. Stops rule_of e (IsRuleIn mode (chars text.now))) }
     // At the end of the text the rule is `Unfinished`.
-    ensures ended { IfErr result (FailsAtEnd (chars text.now)) }
+    ensures ended { IfErr result (λ e. Stops rule_of e (λ r. chars text.now ≡ [] → r ≡ Unfinished)) }
 {
     match read(alloc, mode, text) {
         Ok((token, rest)) => Ok((token, rest)),
-        Err(Miss::Nothing) => Err(TokenStop::Fault(rule_of(text))),
-        Err(Miss::Memory) => Err(TokenStop::Memory),
+        Err(Miss::Nothing) => Err(RuleStop::Fault(rule_of(text))),
+        Err(Miss::Memory) => Err(RuleStop::Memory),
     }
 }

@@ -10,23 +10,25 @@ use Rattle.xml_grammar.specs.declared.elements.Element.{Element}
 use Rattle.xml_grammar.specs.declared.tokens.Mode.{Mode}
 use Rattle.xml_grammar.specs.declared.tokens.Token.{Token}
 use Rattle.xml_grammar.specs.declared.tokens.Token.TheVariants as tokens
-use Rattle.xml_grammar.specs.Pieces.{Piece, Character, StandsRow, HasPiece, later, pieces_of}
+use Rattle.xml_grammar.specs.Pieces.{Piece, Character, HasPiece}
+use Rattle.xml_grammar.specs.Rows.{StandsRow, later, pieces_of}
 use Rattle.xml_grammar.specs.Nesting.{mode_of, mode_in}
 use Rattle.xml_grammar.specs.Documents.{width, behind_mark, IsDocument, IsFault}
-use Rattle.xml_tokenizer.specs.Stands.{Fails}
-use Rattle.xml_tokenizer.specs.declared.stops.TokenStop.{TokenStop}
-use Rattle.xml_tokenizer.specs.declared.stops.TokenStop.TheVariants as token_stops
+use Rattle.xml_tokenizer.specs.Stands.{IsRuleIn}
+use Rattle.xmp_values.specs.declared.stops.RuleStop.{RuleStop}
+use Rattle.xmp_values.specs.declared.stops.RuleStop.TheVariants as rule_stops
 use Rattle.xml_grammar.proofs.OneMeaning.{one_document, one_fault, no_fault}
 use Rattle.xmp_xml.specs.declared.builder.Frame.{Frame}
 use Rattle.xmp_xml.specs.declared.builder.Builder.{Builder}
-use Rattle.xmp_xml.specs.declared.stops.XmlStop.{XmlStop}
-use Rattle.xmp_xml.specs.declared.stops.XmlStop.TheVariants as stops
-use Rattle.xmp_xml.specs.Answering as answering
+use Rattle.xmp_values.specs.declared.stops.PlaceStop.{PlaceStop}
+use Rattle.xmp_values.specs.declared.stops.PlaceStop.TheVariants as stops
+use Rattle.xmp_values.specs.Stops as words
+use Rattle.xmp_values.specs.Stops.{place_of}
 use Rattle.xmp_xml.specs.Building.{is_nil, levels_of, nest_of}
-use Rattle.xmp_xml.specs.Document.{Contents, IsSpelled, Takes, Advances, Halts, finish}
+use Rattle.xmp_xml.specs.Document.{mode_by, Contents, IsSpelled, Takes, Advances, Halts, finish}
 use Rattle.xmp_xml.specs.Documents.{Document}
 use Rattle.xmp_xml.specs.Steps.{step_of, with_run}
-use Rattle.xmp_xml.specs.Reading.{mode_by, stop_at, Stops, IsStop, AnswersDocument, AnswersFault}
+use Rattle.xmp_xml.specs.Reading.{AnswersDocument, AnswersFault}
 use Rattle.xmp_xml.proofs.Stepping.{step_is}
 use Rattle.xmp_xml.proofs.Reached.{Reached}
 use Rattle.xmp_xml.proofs.Documents.{reached_next, document_from}
@@ -95,21 +97,21 @@ module _ (s : Builder) (at : ℕ) (mode : Mode) (token : Token) (text run rest :
   pub advanced : (next : Builder) → step_of s at (with_run token run) ≡ Ok next → Advances s at (chars text) next (chars rest)
   advanced next is = (with_run token run, takes_token s mode token text run rest m u e h some, sym (step_is s at (with_run token run)) ∙ is)
 
-  pub halted : (stop : XmlStop) → answering.Fails stop (step_of s at (with_run token run)) → Stops s at (chars text) stop
+  pub halted : (stop : PlaceStop) → words.Stops place_of stop (λ f. step_of s at (with_run token run) ≡ Err f) → words.Stops place_of stop (λ f. Halts s at (chars text) f.0 f.1)
   halted stops.Memory f = tt
   halted (stops.Fault r place) f = inr (with_run token run, chars rest, takes_token s mode token text run rest m u e h some, sym (step_is s at (with_run token run)) ∙ f)
 
-  pub made : {X : Type 0} (result : Result X XmlStop) (next : Builder) → answering.Makes result next (step_of s at (with_run token run)) → OnOk result (Advances s at (chars text) next (chars rest))
+  pub made : {X : Type 0} (result : Result X PlaceStop) (next : Builder) → words.Makes place_of result next (step_of s at (with_run token run)) → OnOk result (Advances s at (chars text) next (chars rest))
   made (Ok x) next is = advanced next is
   made (Err stop) next f = tt
 
-  pub stopped : {X : Type 0} (result : Result X XmlStop) (next : Builder) → answering.Makes result next (step_of s at (with_run token run)) → IfErr result (Stops s at (chars text))
+  pub stopped : {X : Type 0} (result : Result X PlaceStop) (next : Builder) → words.Makes place_of result next (step_of s at (with_run token run)) → IfErr result (λ e. words.Stops place_of e (λ f. Halts s at (chars text) f.0 f.1))
   stopped (Ok x) next is = tt
   stopped (Err stop) next f = halted stop f
 
-pub no_token : (s : Builder) (at : ℕ) (mode : Mode) (cs : List ℕ) (stop : TokenStop) → mode ≡ mode_by (is_nil s.outer) s.first → cs ≢ [] → Fails mode cs stop → Stops s at cs (stop_at stop at)
-no_token s at mode cs token_stops.Memory m some f = tt
-no_token s at mode cs (token_stops.Fault r) m some f =
+pub no_token : (s : Builder) (at : ℕ) (mode : Mode) (cs : List ℕ) (stop : RuleStop) → mode ≡ mode_by (is_nil s.outer) s.first → cs ≢ [] → words.Stops words.rule_of stop (IsRuleIn mode cs) → words.Stops place_of (words.stop_at stop at) (λ f. Halts s at cs f.0 f.1)
+no_token s at mode cs rule_stops.Memory m some f = tt
+no_token s at mode cs (rule_stops.Fault r) m some f =
     let is : mode_of (nest_of s) ≡ mode = sym (m ∙ mode_is s) in
     inl ((subst (λ (n : Mode). HasPiece n cs → ⊥) (sym is) f.0, f.1 some (nest_of s) is), refl)
 
@@ -145,29 +147,29 @@ advance_reached text rest left s next at e u v reached h =
     let place : at ≡ length text - width (chars rest) = e ∙ ap (λ (n : ℕ). length text - n) (sym (width_is rest v)) in
     reached_next text (chars rest) (chars left) s next u reached (subst (λ (n : ℕ). Advances s n (chars rest) next (chars left)) place h)
 
-pub stop_reached : (text rest : List ℕ) (s : Builder) (at : ℕ) (stop : XmlStop) → at ≡ length text - length rest → IsUtf8 text → IsUtf8 rest → Reached text s (chars rest) → Stops s at (chars rest) stop → IsStop text stop
+pub stop_reached : (text rest : List ℕ) (s : Builder) (at : ℕ) (stop : PlaceStop) → at ≡ length text - length rest → IsUtf8 text → IsUtf8 rest → Reached text s (chars rest) → words.Stops place_of stop (λ f. Halts s at (chars rest) f.0 f.1) → words.Stops place_of stop (λ f. IsFault text f.0 f.1)
 stop_reached text rest s at stops.Memory e u v reached h = tt
 stop_reached text rest s at (stops.Fault r place) e u v reached h =
     let here : at ≡ length text - width (chars rest) = e ∙ ap (λ (n : ℕ). length text - n) (sym (width_is rest v)) in
     fault_from text (chars rest) s r place u reached (subst (λ (n : ℕ). Halts s n (chars rest) r place) here h)
 
-pub ended : (text rest : List ℕ) (s : Builder) (r : Result Contents XmlStop) → rest ≡ [] → IsUtf8 text → Reached text s (chars rest) → answering.Gives r (finish s (length text)) → IfOk r (λ x. IsDocument text x.0 x.1) × IfErr r (IsStop text)
+pub ended : (text rest : List ℕ) (s : Builder) (r : Result Contents PlaceStop) → rest ≡ [] → IsUtf8 text → Reached text s (chars rest) → words.Gives place_of r (finish s (length text)) → IfOk r (λ x. IsDocument text x.0 x.1) × IfErr r (λ e. words.Stops place_of e (λ f. IsFault text f.0 f.1))
 ended text rest s (Ok x) none u reached h = (document_from text s x.0 x.1 u (subst (Reached text s) (ap chars none ∙ chars-nil) reached) h, tt)
 ended text rest s (Err stops.Memory) none u reached h = (tt, tt)
 ended text rest s (Err (stops.Fault r place)) none u reached h = (tt, fault_at_end text s r place u (subst (Reached text s) (ap chars none ∙ chars-nil) reached) h)
 
 -- ---- each answer is the one
 
-abbrev pub Meant : List ℕ → Result Document XmlStop → Type 0
+abbrev pub Meant : List ℕ → Result Document PlaceStop → Type 0
 Meant text (Ok d) = IsDocument text d.root d.declared
-Meant text (Err e) = IsStop text e
+Meant text (Err e) = words.Stops place_of e (λ f. IsFault text f.0 f.1)
 
-pub each_document : (text : List ℕ) (r : Result Document XmlStop) → Meant text r → (root : Element) (declared : List Hint) → IsDocument text root declared → AnswersDocument root declared r
+pub each_document : (text : List ℕ) (r : Result Document PlaceStop) → Meant text r → (root : Element) (declared : List Hint) → IsDocument text root declared → AnswersDocument root declared r
 each_document text (Ok d) h root declared k = one_document text d.root root d.declared declared h k
 each_document text (Err stops.Memory) h root declared k = refl
 each_document text (Err (stops.Fault r place)) h root declared k = absurd (no_fault text root declared r place k h)
 
-pub each_fault : (text : List ℕ) (a : Result Document XmlStop) → Meant text a → (r : Rule) (place : ℕ) → IsFault text r place → AnswersFault r place a
+pub each_fault : (text : List ℕ) (a : Result Document PlaceStop) → Meant text a → (r : Rule) (place : ℕ) → IsFault text r place → AnswersFault r place a
 each_fault text (Ok d) h r place k = no_fault text d.root d.declared r place h k
 each_fault text (Err stops.Memory) h r place k = inl refl
 each_fault text (Err (stops.Fault q at)) h r place k = let one = one_fault text q r at place h k in inr (λ i. stops.Fault (one.0 i) (one.1 i))

@@ -15,7 +15,8 @@ use Rattle.xml_grammar.specs.declared.elements.Element.{Element}
 use Rattle.xml_grammar.specs.declared.tokens.Mode.{Mode}
 use Rattle.xml_grammar.specs.declared.tokens.Token.{Token}
 use Rattle.xml_grammar.specs.declared.tokens.Token.TheVariants as tokens
-use Rattle.xml_grammar.specs.Pieces.{Piece, Character, StandsRow, later, pieces_of}
+use Rattle.xml_grammar.specs.Pieces.{Piece, Character}
+use Rattle.xml_grammar.specs.Rows.{StandsRow, later, pieces_of}
 use Rattle.xml_grammar.specs.Nesting.{mode_of}
 use Rattle.xml_grammar.specs.Documents.{width, behind_mark, IsDocument, IsUtf16, IsFault}
 use Rattle.xml_grammar.proofs.OnePiece.{stands_some}

@@ -12,7 +12,8 @@ use Rattle.xml_grammar.specs.declared.elements.Child.TheVariants as child
 use Rattle.xml_grammar.specs.declared.elements.Element.{Element}
 use Rattle.xml_grammar.specs.declared.tokens.Token.{Token}
 use Rattle.xml_grammar.specs.declared.tokens.Token.TheVariants as tokens
-use Rattle.xml_grammar.specs.Pieces.{Piece, Declaration, Instruction, Comment, Cdata, Start, End, Reference, LineEnd, Character, StandsRow}
+use Rattle.xml_grammar.specs.Pieces.{Piece, Declaration, Instruction, Comment, Cdata, Start, End, Reference, LineEnd, Character}
+use Rattle.xml_grammar.specs.Rows.{StandsRow}
 use Rattle.xml_grammar.specs.Nesting as nesting
 use Rattle.xml_grammar.specs.Nesting.{Nest, Level, mode_of, is_outside, broken}
 use Rattle.xml_grammar.specs.Trees.{events, events_of, put, first_hints}

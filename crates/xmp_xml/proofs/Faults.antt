@@ -12,7 +12,8 @@ use Rattle.xml_grammar.specs.declared.tokens.Mode.{Mode}
 use Rattle.xml_grammar.specs.declared.tokens.Mode.TheVariants as modes
 use Rattle.xml_grammar.specs.declared.tokens.Token.{Token}
 use Rattle.xml_grammar.specs.declared.tokens.Token.TheVariants as tokens
-use Rattle.xml_grammar.specs.Pieces.{Piece, Declaration, Instruction, Comment, Cdata, Start, End, Reference, LineEnd, Character, StandsRow, later}
+use Rattle.xml_grammar.specs.Pieces.{Piece, Declaration, Instruction, Comment, Cdata, Start, End, Reference, LineEnd, Character}
+use Rattle.xml_grammar.specs.Rows.{StandsRow, later}
 use Rattle.xml_grammar.specs.Nesting.{Nest, Level, mode_of, mode_in, broken}
 use Rattle.xml_grammar.specs.Documents.{width, IsRule, IsPieceFault, IsFault}
 use Rattle.xml_grammar.proofs.OneMeaning.{kind_none, told_rule, broken_rule}

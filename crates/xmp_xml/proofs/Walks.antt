@@ -10,7 +10,8 @@ use Rattle.xml_grammar.specs.declared.elements.Child.TheVariants as child
 use Rattle.xml_grammar.specs.declared.elements.Element.{Element}
 use Rattle.xml_grammar.specs.declared.tags.QName.{QName}
 use Rattle.xml_grammar.specs.declared.tags.Tag.{Tag}
-use Rattle.xml_grammar.specs.Pieces.{Piece, Declaration, Instruction, Comment, Cdata, Start, End, Reference, LineEnd, Character, Stands, StandsRow}
+use Rattle.xml_grammar.specs.Pieces.{Piece, Declaration, Instruction, Comment, Cdata, Start, End, Reference, LineEnd, Character, Stands}
+use Rattle.xml_grammar.specs.Rows.{StandsRow}
 use Rattle.xml_grammar.specs.Scopes.{Binding, bindings_of, element_name, expanded_attributes}
 use Rattle.xml_grammar.specs.Nesting as nesting
 use Rattle.xml_grammar.specs.Nesting.{Level, Nest, bound_in, bound_at, enter, is_outside, is_allowed_outside, broken, mode_of}

@@ -1,14 +1,17 @@
 -- Reading a document from left to right.
-use Rattle.std.specs.Prelude.{◌≡◌, ◌≢◌, ◌⊎◌, ℕ, ◌+◌, not, ◌&&◌, ◌==◌, if◌then◌else◌, List, [], length, Option, Some, None, Result, Ok, Err, chars, encode_utf8_all}
+use Rattle.std.specs.Prelude.{◌≡◌, ◌≢◌, ◌⊎◌, Bool, ℕ, ◌+◌, not, ◌&&◌, ◌==◌, if◌then◌else◌, List, [], length, Option, Some, None, Result, Ok, Err, chars, encode_utf8_all}
 use Rattle.std.specs.List.{prefix_len}
 use Rattle.xmp_values.specs.Characters.{is_blank}
 use Rattle.xmp_values.specs.declared.hints.Hint.{Hint}
 use Rattle.xmp_values.specs.declared.rules.Rule.{Rule}
 use Rattle.xmp_values.specs.declared.rules.Rule.TheVariants.{OutsideRoot, Unfinished}
 use Rattle.xml_grammar.specs.declared.elements.Element.{Element}
+use Rattle.xml_grammar.specs.declared.tokens.Mode.{Mode}
+use Rattle.xml_grammar.specs.declared.tokens.Mode.TheVariants as modes
 use Rattle.xml_grammar.specs.declared.tokens.Token.{Token}
 use Rattle.xml_grammar.specs.declared.tokens.Token.TheVariants as tokens
-use Rattle.xml_grammar.specs.Pieces.{Piece, Declaration, Instruction, Comment, Cdata, Start, End, Reference, LineEnd, HasPiece, StandsRow, pieces_of}
+use Rattle.xml_grammar.specs.Pieces.{Piece, Declaration, Instruction, Comment, Cdata, Start, End, Reference, LineEnd, HasPiece}
+use Rattle.xml_grammar.specs.Rows.{StandsRow, pieces_of}
 use Rattle.xml_grammar.specs.Nesting.{mode_of, broken}
 use Rattle.xml_grammar.specs.Trees.{first_hints}
 use Rattle.xml_grammar.specs.Documents.{IsRule}
@@ -20,6 +23,10 @@ abbrev pub Fault : Type 0
 Fault = Rule × ℕ
 
 -- ---- what a token does
+
+-- where the next piece stands: outside or not, first or not
+abbrev pub mode_by : Bool → Bool → Mode
+mode_by outside first = if outside then (if first then modes.Start else modes.Outside) else modes.Inside
 
 abbrev pub allowed : Builder → ℕ → Piece → Option Rule → Result Builder Fault
 allowed s at p None = Ok (after s at p)

@@ -9,6 +9,5 @@ pub mod Building
 pub mod Document
 pub mod Tagging
 pub mod Steps
-pub mod Answering
 pub mod Documents
 pub mod Reading

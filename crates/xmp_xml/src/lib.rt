@@ -19,14 +19,14 @@ mod reading;
 mod scopes;
 mod stack;
 mod steps;
-mod stops;
 mod tags;
 
 pub use contents::Doc;
 pub use laws::document_or_fault;
 pub use reading::read;
-pub use stops::XmlStop;
 pub use xml_grammar::{Attribute, Attributes, Child, Children, Element};
+/// The rule that a text breaks first and the place, in bytes, or out of memory.
+pub use xmp_values::PlaceStop as XmlStop;
 
 #[cfg(test)]
 mod tests;

@@ -3,25 +3,24 @@
 ghost use Rattle.std.specs.Prelude.{◌≡◌, ◌≢◌, ◌+◌, ◌<◌, ◌≤◌, ◌^◌, ◌++◌, [], ℕ, List, length, IfOk, IfErr, OnOk, IsUtf8};
 ghost use Rattle.std.specs.Str.{chars};
 ghost use Rattle.xmp_values.specs.declared.hints.Hint.{Hint};
+ghost use Rattle.xmp_values.specs.Stops.{Gives, Stops, place_of};
 ghost use Rattle.xmp_values.specs.declared.rules.Rule.{Rule};
 ghost use Rattle.xml_grammar.specs.declared.elements.Element.{Element};
 ghost use Rattle.xml_grammar.specs.Documents.{IsDocument, IsFault};
-ghost use Rattle.xml_grammar.specs.Pieces.{StandsRow, pieces_of};
+ghost use Rattle.xml_grammar.specs.Rows.{StandsRow, pieces_of};
 ghost use Rattle.xml_tokenizer.specs.Stands.{IsBehind};
-ghost use Rattle.xmp_xml.specs.Answering.{Gives};
 ghost use Rattle.xmp_xml.specs.Building.{is_nil};
-ghost use Rattle.xmp_xml.specs.Document.{Advances, finish};
-ghost use Rattle.xmp_xml.specs.Reading.{mode_by, stop_at, Stops, IsStop, AnswersDocument, AnswersFault, IsOfBytes, AnswersAlways};
+ghost use Rattle.xmp_xml.specs.Document.{mode_by, Advances, Halts, finish};
+ghost use Rattle.xmp_xml.specs.Reading.{AnswersDocument, AnswersFault, IsOfBytes, AnswersAlways};
 
 use crate::builder::{Builder, new_builder};
 use crate::contents::Doc;
 use crate::hints::first_hints;
 use crate::steps::token_step;
-use crate::stops::XmlStop;
 use std::alloc::Global;
 use xml_grammar::{Element, Mode, Token};
-use xml_tokenizer::{TokenStop, behind_mark, text_of, token_of};
-use xmp_values::{Hint, Hints, Rule, Sequence};
+use xml_tokenizer::{behind_mark, text_of, token_of};
+use xmp_values::{Hint, Hints, PlaceStop, Rule, Sequence};
 
 /// Where the next piece stands.
 fn mode_of(builder: &Builder<'_>) -> Mode
@@ -47,15 +46,6 @@ fn front<'p>(text: &'p str, rest: &'p str) -> &'p str
     front
 }
 
-fn stop_at(stop: TokenStop, at: u64) -> XmlStop
-    ensures { result ≡ stop_at stop at }
-{
-    match stop {
-        TokenStop::Memory => XmlStop::Memory,
-        TokenStop::Fault(rule) => XmlStop::Fault(rule, at),
-    }
-}
-
 /// Past a token that stands at the front of what is left.
 fn advance_by<'p>(
     alloc: Global,
@@ -65,14 +55,14 @@ fn advance_by<'p>(
     token: Token<'p>,
     rest: &'p str,
     behind: &'p str,
-) -> Result<(), XmlStop>
+) -> Result<(), PlaceStop>
     requires fits { at + length rest.now < 2 ^ 64 }
     requires mode { mode ≡ mode_by (is_nil builder.old.outer) builder.old.first }
     requires stands { StandsRow mode (pieces_of token) (chars rest.now) (chars behind.now) }
     requires some { pieces_of token ≢ [] }
     requires behind { IsBehind rest.now behind.now }
     ensures further { OnOk result (Advances builder.old at (chars rest.now) builder.new (chars behind.now)) }
-    ensures stops { IfErr result (Stops builder.old at (chars rest.now)) }
+    ensures stops { IfErr result (λ e. Stops place_of e (λ f. Halts builder.old at (chars rest.now) f.0 f.1)) }
 {
     let run = front(rest, behind);
     token_step(alloc, builder, at, token, run.as_bytes())
@@ -84,13 +74,13 @@ fn advance<'p>(
     builder: &mut Builder<'p>,
     at: u64,
     rest: &'p str,
-) -> Result<&'p str, XmlStop>
+) -> Result<&'p str, PlaceStop>
     requires fits { at + length rest.now < 2 ^ 64 }
     requires some { rest.now ≢ [] }
     ensures further { IfOk result (λ behind. Advances builder.old at (chars rest.now) builder.new (chars behind.now)) }
     ensures shorter { IfOk result (λ behind. length behind.now < length rest.now) }
     ensures utf8 { IfOk result (λ behind. IsUtf8 behind.now) }
-    ensures stops { IfErr result (Stops builder.old at (chars rest.now)) }
+    ensures stops { IfErr result (λ e. Stops place_of e (λ f. Halts builder.old at (chars rest.now) f.0 f.1)) }
 {
     let mode = mode_of(builder);
     match token_of(alloc, mode, rest) {
@@ -98,7 +88,7 @@ fn advance<'p>(
             advance_by(alloc, builder, at, mode, token, rest, behind)?;
             Ok(behind)
         }
-        Err(stop) => Err(stop_at(stop, at)),
+        Err(stop) => Err(stop.at(at)),
     }
 }
 
@@ -107,8 +97,8 @@ fn finish<'p>(
     alloc: Global,
     builder: Builder<'p>,
     at: u64,
-) -> Result<(Element<'p>, Sequence<Hint>), XmlStop>
-    ensures { Gives result (finish builder.entry at) }
+) -> Result<(Element<'p>, Sequence<Hint>), PlaceStop>
+    ensures { Gives place_of result (finish builder.entry at) }
 {
     let Builder {
         first: _,
@@ -120,10 +110,10 @@ fn finish<'p>(
         scope: _,
     } = builder;
     if !outer.is_empty() {
-        return Err(XmlStop::Fault(Rule::Unfinished, at));
+        return Err(PlaceStop::Fault(Rule::Unfinished, at));
     }
     match root {
-        None => Err(XmlStop::Fault(Rule::Unfinished, at)),
+        None => Err(PlaceStop::Fault(Rule::Unfinished, at)),
         Some(root) => {
             let declared = first_hints(alloc, hints.as_slice())?;
             Ok((root, declared))
@@ -132,9 +122,9 @@ fn finish<'p>(
 }
 
 /// The root and the hints of a text.
-fn read_text<'p>(alloc: Global, text: &'p str) -> Result<(Element<'p>, Sequence<Hint>), XmlStop>
+fn read_text<'p>(alloc: Global, text: &'p str) -> Result<(Element<'p>, Sequence<Hint>), PlaceStop>
     ensures document { IfOk result (λ x. IsDocument text.now x.0 x.1) }
-    ensures stop { IfErr result (IsStop text.now) }
+    ensures stop { IfErr result (λ e. Stops place_of e (λ f. IsFault text.now f.0 f.1)) }
 {
     let mut builder = new_builder(alloc);
     let mut rest = behind_mark(text);
@@ -149,23 +139,26 @@ fn read_text<'p>(alloc: Global, text: &'p str) -> Result<(Element<'p>, Sequence<
 }
 
 /// The root and the hints of a text in bytes.
-fn read_bytes<'p>(alloc: Global, bytes: &'p [u8]) -> Result<(Element<'p>, Sequence<Hint>), XmlStop>
+fn read_bytes<'p>(
+    alloc: Global,
+    bytes: &'p [u8],
+) -> Result<(Element<'p>, Sequence<Hint>), PlaceStop>
     ensures document { IfOk result (λ x. IsDocument bytes.now x.0 x.1) }
-    ensures stop { IfErr result (IsStop bytes.now) }
+    ensures stop { IfErr result (λ e. Stops place_of e (λ f. IsFault bytes.now f.0 f.1)) }
     ensures of_bytes { (r : Rule) (place : ℕ) → IsOfBytes r → IsFault bytes.now r place → AnswersAlways r place result }
 {
     match text_of(bytes) {
         Ok(text) => read_text(alloc, text),
-        Err((rule, place)) => Err(XmlStop::Fault(rule, place)),
+        Err((rule, place)) => Err(PlaceStop::Fault(rule, place)),
     }
 }
 
 /// The document of a text, or its first fault.
-pub fn read<'p>(alloc: Global, text: &'p [u8]) -> Result<Doc<'p>, XmlStop>
+pub fn read<'p>(alloc: Global, text: &'p [u8]) -> Result<Doc<'p>, PlaceStop>
     // A document is the text's.
     ensures document { IfOk result (λ d. IsDocument text.now d.root d.declared) }
     // A fault is the text's first one.
-    ensures stop { IfErr result (IsStop text.now) }
+    ensures stop { IfErr result (λ e. Stops place_of e (λ f. IsFault text.now f.0 f.1)) }
     // A text that has a document is read, unless memory runs out.
     ensures each_document { (root : Element) (declared : List Hint) → IsDocument text.now root declared → AnswersDocument root declared result }
     // A fault that a text has is answered, unless memory runs out.

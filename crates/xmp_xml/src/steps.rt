@@ -1,21 +1,20 @@
 //! What each kind of token does.
 
 ghost use Rattle.std.specs.Prelude.{◌≡◌, ◌≤◌, ◌<◌, ◌+◌, ◌^◌, length, is_some, encode_utf8, OnOk};
+ghost use Rattle.xmp_values.specs.Stops.{Makes, place_of};
 ghost use Rattle.xml_grammar.specs.Pieces.{Declaration};
 ghost use Rattle.xml_grammar.specs.Scopes.{same_prefix, same_qname};
 ghost use Rattle.xml_grammar.specs.Nesting.{is_foreign};
-ghost use Rattle.xmp_xml.specs.Answering.{Makes};
 ghost use Rattle.xmp_xml.specs.Building.{is_nil};
 ghost use Rattle.xmp_xml.specs.Document.{run_step};
 ghost use Rattle.xmp_xml.specs.Steps.{declaration_step, text_step, end_step, tag_rule, begun, tagged_step, start_step, step_of, with_run};
 
 use crate::builder::{Builder, add_text, begin, end, end_if, pass, take_scope};
 use crate::pending::char_text;
-use crate::stops::XmlStop;
 use crate::tags::{Tagged, read_tag};
 use std::alloc::Global;
 use xml_grammar::{QName, Tag, Token};
-use xmp_values::{Memory, Rule, Text, leading_blanks};
+use xmp_values::{Memory, PlaceStop, Rule, Text, leading_blanks};
 
 /// The greatest depth of an element.
 const DEEPEST: usize = 100;
@@ -34,11 +33,11 @@ fn declaration_step<'p>(
     builder: &mut Builder<'p>,
     at: u64,
     encoding: &Option<Text<'p>>,
-) -> Result<(), XmlStop>
-    ensures { Makes result builder.new (declaration_step builder.old at encoding.now) }
+) -> Result<(), PlaceStop>
+    ensures { Makes place_of result builder.new (declaration_step builder.old at encoding.now) }
 {
     if is_foreign(encoding) {
-        return Err(XmlStop::Fault(Rule::Encoding, at));
+        return Err(PlaceStop::Fault(Rule::Encoding, at));
     }
     pass(builder);
     Ok(())
@@ -50,11 +49,11 @@ fn text_step<'p>(
     builder: &mut Builder<'p>,
     at: u64,
     text: Text<'p>,
-) -> Result<(), XmlStop>
-    ensures { Makes result builder.new (text_step builder.old at text.entry) }
+) -> Result<(), PlaceStop>
+    ensures { Makes place_of result builder.new (text_step builder.old at text.entry) }
 {
     if builder.outer.is_empty() {
-        return Err(XmlStop::Fault(Rule::OutsideRoot, at));
+        return Err(PlaceStop::Fault(Rule::OutsideRoot, at));
     }
     Ok(add_text(alloc, builder, text)?)
 }
@@ -64,8 +63,8 @@ fn reference_step<'p>(
     builder: &mut Builder<'p>,
     at: u64,
     c: char,
-) -> Result<(), XmlStop>
-    ensures { Makes result builder.new (text_step builder.old at (encode_utf8 c)) }
+) -> Result<(), PlaceStop>
+    ensures { Makes place_of result builder.new (text_step builder.old at (encode_utf8 c)) }
 {
     let text = char_text(alloc, c)?;
     text_step(alloc, builder, at, text)
@@ -93,14 +92,14 @@ fn end_step<'p>(
     builder: &mut Builder<'p>,
     at: u64,
     name: &QName<'p>,
-) -> Result<(), XmlStop>
-    ensures { Makes result builder.new (end_step builder.old at name.now) }
+) -> Result<(), PlaceStop>
+    ensures { Makes place_of result builder.new (end_step builder.old at name.now) }
 {
     if builder.outer.is_empty() {
-        return Err(XmlStop::Fault(Rule::OutsideRoot, at));
+        return Err(PlaceStop::Fault(Rule::OutsideRoot, at));
     }
     if !same_qname(&builder.top.spelled, name) {
-        return Err(XmlStop::Fault(Rule::Mismatch, at));
+        return Err(PlaceStop::Fault(Rule::Mismatch, at));
     }
     Ok(end(alloc, builder)?)
 }
@@ -145,11 +144,11 @@ fn tagged_step<'p>(
     builder: &mut Builder<'p>,
     at: u64,
     tagged: Tagged<'p>,
-) -> Result<(), XmlStop>
-    ensures { Makes result builder.new (tagged_step builder.old at tagged.entry) }
+) -> Result<(), PlaceStop>
+    ensures { Makes place_of result builder.new (tagged_step builder.old at tagged.entry) }
 {
     if let Some(rule) = tag_rule(builder, &tagged) {
-        return Err(XmlStop::Fault(rule, at));
+        return Err(PlaceStop::Fault(rule, at));
     }
     Ok(begun(alloc, builder, tagged)?)
 }
@@ -159,8 +158,8 @@ fn start_step<'p>(
     builder: &mut Builder<'p>,
     at: u64,
     tag: Tag<'p>,
-) -> Result<(), XmlStop>
-    ensures { Makes result builder.new (start_step builder.old at tag.entry) }
+) -> Result<(), PlaceStop>
+    ensures { Makes place_of result builder.new (start_step builder.old at tag.entry) }
 {
     let scope = take_scope(alloc, builder)?;
     let tagged = read_tag(alloc, scope, at, tag)?;
@@ -173,13 +172,13 @@ fn run_step<'p>(
     builder: &mut Builder<'p>,
     at: u64,
     run: &'p [u8],
-) -> Result<(), XmlStop>
+) -> Result<(), PlaceStop>
     requires { at + length run.now < 2 ^ 64 }
-    ensures { Makes result builder.new (run_step builder.old at run.now) }
+    ensures { Makes place_of result builder.new (run_step builder.old at run.now) }
 {
     let blank = leading_blanks(run);
     if builder.outer.is_empty() && blank != run.len() {
-        return Err(XmlStop::Fault(Rule::OutsideRoot, at + blank as u64));
+        return Err(PlaceStop::Fault(Rule::OutsideRoot, at + blank as u64));
     }
     Ok(add_text(alloc, builder, Text::raw(run))?)
 }
@@ -191,9 +190,9 @@ pub fn token_step<'p>(
     at: u64,
     token: Token<'p>,
     bytes: &'p [u8],
-) -> Result<(), XmlStop>
+) -> Result<(), PlaceStop>
     requires { at + length bytes.now < 2 ^ 64 }
-    ensures { Makes result builder.new (step_of builder.old at (with_run token.entry bytes.now)) }
+    ensures { Makes place_of result builder.new (step_of builder.old at (with_run token.entry bytes.now)) }
 {
     match token {
         Token::Declaration(encoding) => declaration_step(builder, at, &encoding),

@@ -4,7 +4,7 @@ use Rattle.xmp_values.specs.declared.rules.Rule.{Rule}
 use Rattle.xml_grammar.specs.Scopes.{Binding, bindings_of}
 use Rattle.xmp_xml.specs.declared.builder.Builder.{Builder}
 use Rattle.xmp_xml.specs.declared.tags.Tagged.{Tagged}
-use Rattle.xmp_xml.specs.Answering.{Makes}
+use Rattle.xmp_values.specs.Stops.{Makes, place_of}
 use Rattle.xmp_xml.specs.Building.{is_nil, unscoped}
 use Rattle.xmp_xml.specs.Document.{Fault}
 use Rattle.xmp_xml.specs.Tagging.{tagged, tagged_with}
@@ -26,4 +26,4 @@ returns c =
     c.in_ok-tagged.ensures ∙ ap (λ (bs : List Binding). tagged_with (bindings_of c.args.tag.attributes ++ bs) c.args.at c.args.tag) c.in_ok-scope.ensures.scope in
     let same : tagged_step c.take_scope.new.builder c.args.at c.in_ok-tagged.tagged ≡ start_step s c.args.at c.args.tag =
     (λ i. tagged_step (c.in_ok-scope.ensures.builder i) c.args.at (read i)) ∙ unscoped_step s c.args.at (tagged s c.args.at c.args.tag) in
-    subst (λ (r : Result Builder Fault). Makes c.tagged_step.result c.tagged_step.new.builder r) same c.tagged_step.ensures
+    subst (λ (r : Result Builder Fault). Makes place_of c.tagged_step.result c.tagged_step.new.builder r) same c.tagged_step.ensures
