@@ -1,5 +1,5 @@
 //! Bytes that stand for themselves in a written text.
-ghost use Rattle.std.specs.Prelude.{◌≡◌};
+ghost use Rattle.std.specs.Prelude.{◌≡◌, ◌≤◌, length};
 ghost use Rattle.xmp_lanes.specs.Runs.{is_escaped, is_escaped_in_text, plain_run};
 
 /// Where a text is written.
@@ -31,7 +31,8 @@ fn is_escaped(place: Escape, byte: u8) -> bool
 
 /// The length of the longest prefix without a byte that is escaped there.
 pub fn plain_run(bytes: &[u8], place: Escape) -> usize
-    ensures { result ≡ plain_run place bytes.now }
+    ensures run { result ≡ plain_run place bytes.now }
+    ensures within { result ≤ length bytes.now }
 {
     bytes
         .iter()

@@ -16,3 +16,9 @@ pub mod DeclaredSpaces
 pub mod KnownRows
 pub mod KeptPrefixes
 pub mod PrefixLaws
+pub mod PlacedPieces
+pub mod TextLevels
+pub mod EscapedRuns
+pub mod PutValues
+pub mod TextParts
+pub mod PutPackets

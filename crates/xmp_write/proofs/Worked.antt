@@ -28,14 +28,14 @@ abbrev text : List ℕ
 text = codes "<x:xmpmeta xmlns:x=\"adobe:ns:meta/\">\n<rdf:RDF xmlns:rdf=\"http://www.w3.org/1999/02/22-rdf-syntax-ns#\">\n<rdf:Description rdf:about=\"\" xmlns:dc=\"http://purl.org/dc/elements/1.1/\">\n<dc:format>image/jpeg</dc:format>\n</rdf:Description>\n</rdf:RDF>\n</x:xmpmeta>\n"
 
 the_text : written_text (dc ∷ []) tree whole ≡ text
-unfolding rdf_space xml_space meta_space
+unfolding written_text rdf_space xml_space meta_space
 the_text = refl
 
 its_length : length text ≡ 255
 its_length = refl
 
 the_packet : packet (dc ∷ []) tree whole 331 ≡ header ++ text ++ codes "  \n" ++ trailer
-unfolding rdf_space xml_space meta_space
+unfolding written_text packet rdf_space xml_space meta_space
 the_packet = refl
 
 lengths : (length header ≡ 54) × (length trailer ≡ 19)

@@ -5,6 +5,7 @@ pub mod PrefixLaws
 pub mod Text
 pub mod WrittenPackets
 pub mod Lines
+pub mod Placing
 pub mod Texts
 pub mod Hinted
 pub mod Giving

@@ -149,7 +149,7 @@ tree_text ps about props =
     ) ++ codes "\n")) ++ codes "</x:xmpmeta>")
 
 -- The canonical text of a tree in a form: that element of the tree's about and of the members that are written, and a line feed.
-abbrev pub written_text : List Hint → Parts → Form → List ℕ
+unfoldable pub written_text : List Hint → Parts → Form → List ℕ
 written_text ps t form = tree_text ps t.about (written_members t form) ++ codes "\n"
 
 -- the same, with the prefixes that the tree, the hints and the form give

@@ -28,7 +28,7 @@ abbrev pub least_len : List Hint → Parts → Form → ℕ
 least_len ps t form = 73 + length (written_text ps t form)
 
 -- the packet of a tree in a form, of at least its least length
-abbrev pub packet : List Hint → Parts → Form → ℕ → List ℕ
+unfoldable pub packet : List Hint → Parts → Form → ℕ → List ℕ
 packet ps t form len = header ++ written_text ps t form ++ pad (len - least_len ps t form) ++ trailer
 
 -- the same, with the prefixes that the tree, the hints and the form give

@@ -10,15 +10,19 @@ mod giving;
 mod hinted;
 mod laws;
 mod listing;
+mod placing;
 mod prefixes;
 #[cfg(test)]
 mod tree_tests;
 mod uses;
 #[cfg(test)]
 mod valid_hints;
+mod values;
+mod writing;
 
 pub use forms::Form;
 pub use laws::{prefixes_are_told_apart, the_least_free_number};
 pub use listing::lines;
 pub use prefixes::Prefixes;
+pub use writing::{measure, packet_into, pad_into, write_into};
 pub use xmp_packets::{Packet, PacketInfo};

@@ -78,6 +78,13 @@ impl<'t> Prefixes<'t> {
         self.list.len()
     }
 
+    /// The namespaces in their order, each with its prefix.
+    pub fn as_slice(&self) -> &[Hint]
+        ensures { result.now ≡ self.now }
+    {
+        self.list.as_slice()
+    }
+
     /// The namespace at a place, from 0, with its prefix; None exactly where there is none.
     pub fn get(&self, at: usize) -> Option<&Hint>
         ensures { option_copied result ≡ slice_get self.now at }

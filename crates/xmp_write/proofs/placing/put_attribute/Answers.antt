@@ -1,0 +1,5 @@
+use Rattle.xmp_write.proofs.PlacedPieces.{◌▸◌}
+use Rattle.xmp_write.proofs.placing.put_attribute.Goals as goal
+
+pub returns : goal.returns
+returns c = c.put-at.ensures ▸ c.put_name-at.ensures ▸ c.put-at-2.ensures ▸ c.put_escaped-at.ensures ▸ c.put.ensures
