@@ -4,3 +4,6 @@ pub mod Clashes
 pub mod Entered
 pub mod EnteredLists
 pub mod Tops
+pub mod LeastFound
+pub mod Levels
+pub mod Settled

@@ -9,6 +9,8 @@ pub mod FormRules
 pub mod MemberRules
 pub mod Entering
 pub mod Rules
+pub mod LeastRules
 pub mod Broken
 pub mod Meaning
 pub mod Merging
+pub mod Levels

@@ -8,6 +8,7 @@
 mod admission;
 mod form_rules;
 mod forms;
+mod laws;
 mod member_names;
 mod member_rules;
 mod name_rules;
@@ -20,6 +21,7 @@ mod visits;
 mod words;
 
 pub use forms::{Form, form_of};
+pub use laws::{least_rule, settled_levels};
 pub use name_rules::{about_bytes, about_text};
 pub use parts::{first_element, lang_value, rdf_value};
 pub use roles::{Holder, Role};
