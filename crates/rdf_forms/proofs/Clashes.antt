@@ -69,7 +69,7 @@ regroup true b c d = refl
 regroup false true c d = refl
 regroup false false c d = refl
 
--- a name, and then those behind it
+-- a name, and then those after it
 pub clashes-cons : (n : Name) (ns names : List Name) → clashes (n ∷ ns) names ≡ (stands n names || clashes ns (names ++ n ∷ []))
 clashes-cons n ns names =
     regroup (stands n names) (has_common ns names) (stands n ns) (has_again ns)

@@ -1,6 +1,6 @@
 -- What entering names in a set gives, list by list.
 use Rattle.std.proofs.Common.{ℕ, ◌+◌, ◌<◌, ◌≡◌, Bool, true, false, ◌||◌, List, [], ◌∷◌, ◌++◌, length, take, drop, get_or, map, refl, ap, sym, subst, ◌∙◌, append_assoc, ⊎_elim}
-use Rattle.std.specs.Prelude.{not, Option, Some, None, is_none, filter, codes}
+use Rattle.std.specs.Prelude.{not, Option, Some, None, filter, codes}
 use Rattle.std.specs.List.{flat_map, cons_option}
 use Rattle.std.proofs.lemmas.Bool.{or_from, or_left, or_right, not-true, not-false}
 use Rattle.std.proofs.lemmas.List.{append-nil, map-append, take_more, take-append-drop}
@@ -40,9 +40,9 @@ module _ (those ns set more : List Name) (so_far : IsEntered those ns set) where
   pub more_clash : clashes more set ≡ true → clashes (ns ++ more) those ≡ true
   more_clash clash = clashes-append ns more those ∙ or_right (clashes ns those) (clashes more (those ++ ns)) (sym same ∙ clash)
 
-  pub enters_more : (result : Option (List Name)) → Enters set more result → Enters those (ns ++ more) result
-  enters_more None clash = more_clash clash
-  enters_more (Some new) entering = more_entered new entering.apart entering.holds
+  pub enters_more : (new : List Name) (b : Bool) → Enters set more new b → Enters those (ns ++ more) new b
+  enters_more new false clash = more_clash clash
+  enters_more new true entering = more_entered new entering.apart entering.holds
 
 pub clash_before : (those ns more : List Name) → clashes ns those ≡ true → clashes (ns ++ more) those ≡ true
 clash_before those ns more clash = clashes-append ns more those ∙ or_left (clashes ns those) (clashes more (those ++ ns)) clash
@@ -115,10 +115,10 @@ common_none (n ∷ ns) = common_none ns
 pub clashes-none : (ns : List Name) → clashes ns [] ≡ has_again ns
 clashes-none ns = ap (λ (b : Bool). b || has_again ns) (common_none ns)
 
--- what tells that a set wasn't entered
-pub none_tells : (those ns : List Name) (result : Option (List Name)) → Enters those ns result → is_none result ≡ clashes ns those
-none_tells those ns None clash = sym clash
-none_tells those ns (Some set) entering = sym entering.apart
+-- what tells that names clash
+pub told : (those ns set : List Name) (b : Bool) → Enters those ns set b → not b ≡ clashes ns those
+told those ns set false clash = sym clash
+told those ns set true entering = sym entering.apart
 
-pub none_tells_again : (those ns : List Name) (result : Option (List Name)) → those ≡ [] → Enters those ns result → is_none result ≡ has_again ns
-none_tells_again those ns result none entering = none_tells those ns result entering ∙ ap (clashes ns) none ∙ clashes-none ns
+pub told_again : (those ns set : List Name) (b : Bool) → those ≡ [] → Enters those ns set b → not b ≡ has_again ns
+told_again those ns set b none entering = told those ns set b entering ∙ ap (clashes ns) none ∙ clashes-none ns

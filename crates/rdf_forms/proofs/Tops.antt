@@ -1,4 +1,4 @@
--- The least rule that a top breaks behind others.
+-- The least rule that a top breaks after others.
 use Rattle.std.proofs.Common.{◌≡◌, ℕ, List, ◌++◌, Bool, true, false, ap, sym, ◌∙◌}
 use Rattle.std.specs.Prelude.{Some, None, if◌then◌else◌}
 use Rattle.xmp_values.specs.declared.text.Name.{Name}

@@ -1,5 +1,5 @@
 -- What a set of names holds, and what entering names in it gives.
-use Rattle.std.specs.Prelude.{◌≡◌, ◌↔◌, Bool, true, false, ◌||◌, List, ◌++◌, Option, Some, None, Contains, map, filter}
+use Rattle.std.specs.Prelude.{◌≡◌, ◌↔◌, Bool, true, false, ◌||◌, List, ◌++◌, Contains, map, filter}
 use Rattle.xmp_values.specs.declared.text.Name.{Name}
 use Rattle.xml_grammar.specs.declared.elements.Attribute.{Attribute}
 use Rattle.xml_grammar.specs.declared.elements.Child.{Child}
@@ -11,7 +11,7 @@ use Rattle.rdf_forms.specs.MemberRules.{has_again, has_common, attribute_names, 
 abbrev pub Holds : List Name → List Name → Type 0
 Holds set names = (n : Name) → Contains set n ↔ Contains names n
 
--- one of these names stands among those, or again behind itself
+-- one of these names stands among those, or again after itself
 abbrev pub clashes : List Name → List Name → Bool
 clashes ns those = has_common ns those || has_again ns
 
@@ -31,7 +31,7 @@ pub record IsEntered (those ns set : List Name) : Type 0 where
   pub apart : clashes ns those ≡ false
   pub holds : Holds set (those ++ ns)
 
--- what entering names in a set of those gives: none where they clash, else the set of both
-abbrev pub Enters : List Name → List Name → Option (List Name) → Type 0
-Enters those ns None = clashes ns those ≡ true
-Enters those ns (Some set) = IsEntered those ns set
+-- what entering names in a set of those makes of it: the set of both, unless they clash
+abbrev pub Enters : List Name → List Name → List Name → Bool → Type 0
+Enters those ns set true = IsEntered those ns set
+Enters those ns set false = clashes ns those ≡ true

@@ -1,7 +1,8 @@
--- The tree that a document means (ISO 16684-1, 7.3 and 7.4), its note and its places.
+-- What a document means: its tree (ISO 16684-1, 7.3 and 7.4), its note and its places.
 use Rattle.std.specs.Prelude.{ℕ, Bool, not, ◌&&◌, ◌==◌, if◌then◌else◌, List, [], ◌∷◌, ◌++◌, length, map, Option, Some, None, find, filter, option_and_then, codes}
 use Rattle.std.specs.List.{flat_map, list_all}
 use Rattle.xmp_values.specs.Digits.{is_digit, capital}
+use Rattle.xmp_values.specs.declared.hints.Hint.{Hint}
 use Rattle.xmp_tree.specs.declared.nested.Value.{Value, out-Value}
 use Rattle.xmp_tree.specs.declared.nested.Member.{Member}
 use Rattle.xmp_tree.specs.declared.nested.Shape.{Shape, Shape-F, out-Shape}
@@ -62,3 +63,14 @@ tree_of levels root = record { about = first_about (tops_of root); props = map (
 
 abbrev pub places_of : ℕ → Element → List ℕ
 places_of levels root = map (λ (p : Placed). p.0) (properties levels root)
+
+-- a tree, hints, the name of the extended text, and the place of each property
+pub record Meaning : Type 0 where
+  pub tree : Parts
+  pub hints : List Hint
+  pub note : Option (List ℕ)
+  pub places : List ℕ
+
+-- the meaning of a document with these declarations, which has no more levels of elements than `levels`
+abbrev pub meaning_of : ℕ → Element → List Hint → Meaning
+meaning_of levels root hints = record { tree = tree_of levels root; hints = hints; note = note_of levels root; places = places_of levels root }

@@ -43,7 +43,7 @@ has_attribute_value_twice role e = has_two_values e || has_value_again e || has_
 unfoldable pub twice_value : Role → Element → Bool
 twice_value role e = has_attribute_value_twice role e || has_role_value_twice role e
 
--- a name that stands again behind itself
+-- a name that stands again after itself
 abbrev pub has_again : List Name → Bool
 has_again [] = false
 has_again (n ∷ ns) = list_any (same_name n) ns || has_again ns
@@ -93,7 +93,7 @@ tree_deep roles.Item depth e = too_deep depth e
 tree_deep roles.Node depth e = depth == most_depth && (has_attribute is_own e || is_typed e)
 tree_deep role depth e = false
 
--- the least of these rules that an element breaks in its role, behind tops whose members have these names
+-- the least of these rules that an element breaks in its role, after tops whose members have these names
 unfoldable pub member_rule : Role → ℕ → Element → List Name → Option Rule
 member_rule role depth e names =
     if twice_value role e then Some TwiceValue

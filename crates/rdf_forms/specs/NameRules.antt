@@ -103,7 +103,7 @@ unfoldable pub rdf_name : Role → Element → Bool
 rdf_name (roles.Property holder) e = in_rdf (name_of e) && not (is_allowed_member holder e)
 rdf_name role e = false
 
--- the least of these rules that an element breaks in its role, behind tops with this first about
+-- the least of these rules that an element breaks in its role, after tops with this first about
 unfoldable pub name_rule : Role → Element → List ℕ → Option Rule
 name_rule role e first =
     if no_rdf role e then Some NoRdf

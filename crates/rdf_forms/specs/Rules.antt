@@ -16,7 +16,7 @@ abbrev pub or_else : {X : Type 0} → Option X → Option X → Option X
 or_else (Some x) other = Some x
 or_else None other = other
 
--- the least rule that an element breaks in its role, behind tops with this first about and these names of members
+-- the least rule that an element breaks in its role, after tops with this first about and these names of members
 unfoldable pub broken_in : Role → ℕ → Element → List ℕ → List Name → Option Rule
 broken_in role depth e first names = or_else (name_rule role e first) (or_else (form_rule role e) (member_rule role depth e names))
 

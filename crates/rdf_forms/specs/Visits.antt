@@ -1,5 +1,5 @@
 -- The elements that have a role, in the order of the document (ISO 16684-1, 7.3 and 7.4).
-use Rattle.std.specs.Prelude.{ℕ, zero, suc, ◌+◌, Bool, false, not, ◌||◌, if◌then◌else◌, List, [], ◌∷◌, ◌++◌, codes}
+use Rattle.std.specs.Prelude.{ℕ, zero, suc, ◌+◌, Bool, not, ◌||◌, if◌then◌else◌, List, [], ◌∷◌, ◌++◌, codes}
 use Rattle.std.specs.List.{flat_map}
 use Rattle.xml_grammar.specs.declared.elements.Element.{Element}
 use Rattle.rdf_forms.specs.declared.roles.Role.{Role}
@@ -59,7 +59,7 @@ abbrev pub property_visits : ℕ → Role → ℕ → Element → List Visit
 property_visits zero role depth e = []
 property_visits (suc levels) role depth e = visit role depth e ∷ form_visits (property_visits levels) depth e (form_of e)
 
--- the tops behind earlier ones, each with the elements in it
+-- the tops after earlier ones, each with the elements in it
 abbrev pub top_visits : ℕ → List Element → List Element → List Visit
 top_visits levels earlier [] = []
 top_visits levels earlier (t ∷ ts) =

@@ -5,7 +5,8 @@ ghost use Rattle.rdf_forms.specs.FormViews.{is_by_attributes};
 ghost use Rattle.rdf_forms.specs.NameRules.{has_some_attribute};
 ghost use Rattle.rdf_forms.specs.FormRules.{has_two_values, has_value_again, has_qualified_uri, is_twice_value_attribute, is_property_attribute, is_role_attribute, is_refused};
 
-use crate::forms::{Form, form_of};
+use crate::formed::Formed;
+use crate::forms::Form;
 use crate::name_rules::{is_bare, is_xml};
 use crate::parts::{has_own_attribute, has_rdf_attribute};
 use crate::roles::Role;
@@ -39,10 +40,10 @@ pub fn has_qualified_uri(element: &Element<'_>) -> bool
         && has_own_attribute(element)
 }
 
-fn is_by_attributes(element: &Element<'_>) -> bool
-    ensures { result ≡ is_by_attributes (form_of element.now) }
+fn is_by_attributes(formed: &Formed<'_, '_>) -> bool
+    ensures { result ≡ is_by_attributes (form_of formed.now.element.now) }
 {
-    matches!(form_of(element), Form::ByAttributes)
+    matches!(formed.form, Form::ByAttributes)
 }
 
 /// An element with what decides which of its attributes are refused. It is found once, so that
@@ -61,12 +62,13 @@ pub struct Admission<'e, 'p> {
 }
 
 impl<'e, 'p> Admission<'e, 'p> {
-    pub fn of(element: &'e Element<'p>) -> Admission<'e, 'p>
-        ensures { result.element.now ≡ element.now }
+    pub fn of(formed: &Formed<'e, 'p>) -> Admission<'e, 'p>
+        ensures { result.element.now ≡ formed.now.element.now }
     {
+        let element = formed.element;
         Admission {
             element,
-            by_attributes: is_by_attributes(element),
+            by_attributes: is_by_attributes(formed),
             two_values: has_two_values(element),
             value_again: has_value_again(element),
             qualified_uri: has_qualified_uri(element),

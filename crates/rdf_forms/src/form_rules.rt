@@ -5,7 +5,8 @@ ghost use Rattle.rdf_forms.specs.Forms.{form_of};
 ghost use Rattle.rdf_forms.specs.FormRules.{is_property_or_item, has_two_abouts, refused_attribute, bad_parse_type, is_form_of_elements, has_elements_alone, mixed, many_nodes, bad_container, bad_item, form_rule};
 
 use crate::admission::Admission;
-use crate::forms::{Form, form_of, has_parse_type, is_resource};
+use crate::formed::Formed;
+use crate::forms::{Form, has_parse_type, is_resource};
 use crate::parts::{element_count, has_bare_about, has_blank_text, has_rdf_attribute};
 use crate::roles::Role;
 use crate::visits::is_typed;
@@ -31,10 +32,10 @@ fn has_two_abouts(role: Role, element: &Element<'_>) -> bool
 }
 
 #[tactic(auto, unfolding(crate::specs::FormRules::refused_attribute))]
-fn refused_attribute(role: Role, element: &Element<'_>) -> bool
-    ensures { result ≡ refused_attribute role element.now }
+fn refused_attribute(role: Role, formed: &Formed<'_, '_>) -> bool
+    ensures { result ≡ refused_attribute role formed.now.element.now }
 {
-    Admission::of(element).refuses_some(role) || has_two_abouts(role, element)
+    Admission::of(formed).refuses_some(role) || has_two_abouts(role, formed.element)
 }
 
 #[tactic(auto, unfolding(crate::specs::FormRules::bad_parse_type))]
@@ -45,29 +46,29 @@ fn bad_parse_type(role: Role, element: &Element<'_>) -> bool
 }
 
 /// Whether the value stands in child elements.
-fn is_form_of_elements(element: &Element<'_>) -> bool
-    ensures { result ≡ is_form_of_elements (form_of element.now) }
+fn is_form_of_elements(formed: &Formed<'_, '_>) -> bool
+    ensures { result ≡ is_form_of_elements (form_of formed.now.element.now) }
 {
     matches!(
-        form_of(element),
+        formed.form,
         Form::ByMembers | Form::ByContainer(_) | Form::ByNode(_)
     )
 }
 
-fn has_elements_alone(role: Role, element: &Element<'_>) -> bool
-    ensures { result ≡ has_elements_alone role element.now }
+fn has_elements_alone(role: Role, formed: &Formed<'_, '_>) -> bool
+    ensures { result ≡ has_elements_alone role formed.now.element.now }
 {
     match role {
-        Role::Property(_) | Role::Item => is_form_of_elements(element),
+        Role::Property(_) | Role::Item => is_form_of_elements(formed),
         _ => true,
     }
 }
 
 #[tactic(auto, unfolding(crate::specs::FormRules::mixed))]
-fn mixed(role: Role, element: &Element<'_>) -> bool
-    ensures { result ≡ mixed role element.now }
+fn mixed(role: Role, formed: &Formed<'_, '_>) -> bool
+    ensures { result ≡ mixed role formed.now.element.now }
 {
-    has_elements_alone(role, element) && !has_blank_text(element)
+    has_elements_alone(role, formed) && !has_blank_text(formed.element)
 }
 
 #[tactic(auto, unfolding(crate::specs::FormRules::many_nodes))]
@@ -99,14 +100,15 @@ fn bad_item(role: Role, element: &Element<'_>) -> bool
 
 /// The least of these rules that an element breaks in its role.
 #[tactic(auto, unfolding(crate::specs::FormRules::form_rule))]
-pub fn form_rule(role: Role, element: &Element<'_>) -> Option<Rule>
-    ensures { result ≡ form_rule role element.now }
+pub fn form_rule(role: Role, formed: &Formed<'_, '_>) -> Option<Rule>
+    ensures { result ≡ form_rule role formed.now.element.now }
 {
-    if refused_attribute(role, element) {
+    let element = formed.element;
+    if refused_attribute(role, formed) {
         Some(Rule::RefusedAttribute)
     } else if bad_parse_type(role, element) {
         Some(Rule::BadParseType)
-    } else if mixed(role, element) {
+    } else if mixed(role, formed) {
         Some(Rule::Mixed)
     } else if many_nodes(role, element) {
         Some(Rule::ManyNodes)

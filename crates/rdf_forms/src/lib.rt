@@ -7,6 +7,7 @@
 
 mod admission;
 mod form_rules;
+mod formed;
 mod forms;
 mod laws;
 mod member_names;
@@ -20,6 +21,7 @@ mod tests;
 mod visits;
 mod words;
 
+pub use formed::Formed;
 pub use forms::{Form, form_of};
 pub use laws::{least_rule, settled_levels};
 pub use name_rules::{about_bytes, about_text};

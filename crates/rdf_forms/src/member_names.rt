@@ -63,48 +63,48 @@ fn enter_attribute<'e>(
     }
 }
 
-/// Enters the names of the child elements; None where one of them stood there.
+/// Enters the names of the child elements; false where one of them stood there.
 pub fn enter_elements<'e>(
-    mut seen: NameSet<'e>,
+    seen: &mut NameSet<'e>,
     element: &'e Element<'_>,
     without_value: bool,
-) -> Result<Option<NameSet<'e>>, Memory>
-    ensures { IfOk result (Enters seen.entry (entered without_value (map name_of (elements_of element.now)))) }
+) -> Result<bool, Memory>
+    ensures { IfOk result (Enters seen.old (entered without_value (map name_of (elements_of element.now))) seen.new) }
 {
     for child in element.children.as_slice() {
-        if !enter_child(&mut seen, child, without_value)? {
-            return Ok(None);
+        if !enter_child(seen, child, without_value)? {
+            return Ok(false);
         }
     }
-    Ok(Some(seen))
+    Ok(true)
 }
 
-/// Enters the names of the property attributes; None where one of them stood there.
+/// Enters the names of the property attributes; false where one of them stood there.
 fn enter_attributes<'e>(
-    mut seen: NameSet<'e>,
+    seen: &mut NameSet<'e>,
     element: &'e Element<'_>,
     without_value: bool,
-) -> Result<Option<NameSet<'e>>, Memory>
-    ensures { IfOk result (Enters seen.entry (entered without_value (attribute_names (own_attributes element.now)))) }
+) -> Result<bool, Memory>
+    ensures { IfOk result (Enters seen.old (entered without_value (attribute_names (own_attributes element.now))) seen.new) }
 {
     for attribute in element.attributes.as_slice() {
-        if !enter_attribute(&mut seen, attribute, without_value)? {
-            return Ok(None);
+        if !enter_attribute(seen, attribute, without_value)? {
+            return Ok(false);
         }
     }
-    Ok(Some(seen))
+    Ok(true)
 }
 
-/// Enters the names of the members of a top or a node; None where one of them stood there.
+/// Enters the names of the members of a top or a node; false where one of them stood there.
 pub fn enter_members<'e>(
-    seen: NameSet<'e>,
+    seen: &mut NameSet<'e>,
     element: &'e Element<'_>,
     without_value: bool,
-) -> Result<Option<NameSet<'e>>, Memory>
-    ensures { IfOk result (Enters seen.entry (entered without_value (member_names element.now))) }
+) -> Result<bool, Memory>
+    ensures { IfOk result (Enters seen.old (entered without_value (member_names element.now)) seen.new) }
 {
-    match enter_attributes(seen, element, without_value)? {
-        Some(more) => enter_elements(more, element, without_value),
-        None => Ok(None),
+    if !enter_attributes(seen, element, without_value)? {
+        return Ok(false);
     }
+    enter_elements(seen, element, without_value)
 }

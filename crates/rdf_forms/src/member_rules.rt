@@ -7,10 +7,11 @@ ghost use Rattle.rdf_forms.specs.Forms.{form_of};
 ghost use Rattle.rdf_forms.specs.Visits.{is_typed};
 ghost use Rattle.rdf_forms.specs.FormRules.{is_value_element};
 ghost use Rattle.rdf_forms.specs.MemberRules.{has_inner_value, value_count, has_role_value_twice, has_attribute_value_twice, twice_value, has_again, member_names, other_names, has_lang_value, repeats_member, twice, too_deep, tree_deep, member_rule};
-ghost use Rattle.rdf_forms.specs.Entering.{Enters};
+ghost use Rattle.rdf_forms.specs.Entering.{clashes, Enters};
 
 use crate::admission::{has_qualified_uri, has_two_values, has_value_again};
-use crate::forms::{Form, form_of};
+use crate::formed::Formed;
+use crate::forms::Form;
 use crate::member_names::{enter_elements, enter_members};
 use crate::parts::{
     as_element, has_lang, has_own_attribute, has_rdf_attribute, has_rdf_element, rdf_element_count,
@@ -32,10 +33,11 @@ fn is_value_element(element: &Element<'_>) -> bool
 }
 
 /// TwiceValue by the members of a property or item.
-fn has_inner_value(element: &Element<'_>) -> bool
-    ensures { result ≡ has_inner_value (form_of element.now) element.now }
+fn has_inner_value(formed: &Formed<'_, '_>) -> bool
+    ensures { let e = formed.now.element.now in result ≡ has_inner_value (form_of e) e }
 {
-    match form_of(element) {
+    let element = formed.element;
+    match formed.form {
         Form::ByMembers => {
             rdf_element_count(b"value".as_slice(), element) >= 2
                 || (is_value_element(element) && has_rdf_element(b"value".as_slice(), element))
@@ -55,12 +57,12 @@ fn has_two_value_members(node: &Element<'_>) -> bool
     count >= 2 || (count == 1 && has_rdf_attribute(b"value".as_slice(), node))
 }
 
-fn has_role_value_twice(role: Role, element: &Element<'_>) -> bool
-    ensures { result ≡ has_role_value_twice role element.now }
+fn has_role_value_twice(role: Role, formed: &Formed<'_, '_>) -> bool
+    ensures { result ≡ has_role_value_twice role formed.now.element.now }
 {
     match role {
-        Role::Property(_) | Role::Item => has_inner_value(element),
-        Role::Node => has_two_value_members(element),
+        Role::Property(_) | Role::Item => has_inner_value(formed),
+        Role::Node => has_two_value_members(formed.element),
         _ => false,
     }
 }
@@ -76,10 +78,10 @@ fn has_attribute_value_twice(role: Role, element: &Element<'_>) -> bool
 
 /// Whether an element breaks TwiceValue in its role.
 #[tactic(auto, unfolding(crate::specs::MemberRules::twice_value))]
-pub fn twice_value(role: Role, element: &Element<'_>) -> bool
-    ensures { result ≡ twice_value role element.now }
+pub fn twice_value(role: Role, formed: &Formed<'_, '_>) -> bool
+    ensures { result ≡ twice_value role formed.now.element.now }
 {
-    has_attribute_value_twice(role, element) || has_role_value_twice(role, element)
+    has_attribute_value_twice(role, formed.element) || has_role_value_twice(role, formed)
 }
 
 /// Whether the child is an element `rdf:value` with `xml:lang`.
@@ -101,28 +103,31 @@ fn has_lang_value(element: &Element<'_>) -> bool
 }
 
 /// Whether two child elements, `rdf:value` aside, have the same name.
-#[tactic(auto, using(crate::proofs::EnteredLists::none_tells_again))]
+#[tactic(auto, using(crate::proofs::EnteredLists::told_again))]
 fn repeats_element(alloc: Global, element: &Element<'_>) -> Result<bool, Memory>
     ensures { IfOk result (λ again. again ≡ has_again (other_names (map name_of (elements_of element.now)))) }
 {
-    let entered = enter_elements(NameSet::new(alloc), element, true)?;
-    Ok(entered.is_none())
+    let mut seen = NameSet::new(alloc);
+    let are_apart = enter_elements(&mut seen, element, true)?;
+    Ok(!are_apart)
 }
 
 /// Whether two members of a node, `rdf:value` aside, have the same name.
-#[tactic(auto, using(crate::proofs::EnteredLists::none_tells_again))]
+#[tactic(auto, using(crate::proofs::EnteredLists::told_again))]
 fn repeats_node_member(alloc: Global, node: &Element<'_>) -> Result<bool, Memory>
     ensures { IfOk result (λ again. again ≡ has_again (other_names (member_names node.now))) }
 {
-    let entered = enter_members(NameSet::new(alloc), node, true)?;
-    Ok(entered.is_none())
+    let mut seen = NameSet::new(alloc);
+    let are_apart = enter_members(&mut seen, node, true)?;
+    Ok(!are_apart)
 }
 
 /// Whether a property or item has two members or qualifiers of the same name.
-fn repeats_member(alloc: Global, element: &Element<'_>) -> Result<bool, Memory>
-    ensures { IfOk result (λ again. again ≡ repeats_member (form_of element.now) element.now) }
+fn repeats_member(alloc: Global, formed: &Formed<'_, '_>) -> Result<bool, Memory>
+    ensures { let e = formed.now.element.now in IfOk result (λ again. again ≡ repeats_member (form_of e) e) }
 {
-    match form_of(element) {
+    let element = formed.element;
+    match formed.form {
         Form::ByMembers if has_lang(element) && has_lang_value(element) => Ok(true),
         Form::ByMembers => repeats_element(alloc, element),
         Form::ByNode(node) => Ok(has_lang(element) && has_lang_value(node)),
@@ -140,25 +145,30 @@ fn repeats_in_node(alloc: Global, node: &Element<'_>) -> Result<bool, Memory>
     repeats_node_member(alloc, node)
 }
 
-/// Enters the names of a top's members; None where the top breaks Twice behind those entered.
-pub fn enter_top<'e>(top: &'e Element<'_>, seen: NameSet<'e>) -> Result<Option<NameSet<'e>>, Memory>
-    ensures { IfOk result (Enters seen.entry (member_names top.now)) }
+/// Enters the names of a top's members; false where the top breaks Twice after those entered.
+pub fn enter_top<'e>(top: &'e Element<'_>, seen: &mut NameSet<'e>) -> Result<bool, Memory>
+    ensures { IfOk result (Enters seen.old (member_names top.now) seen.new) }
 {
     enter_members(seen, top, false)
 }
 
-/// Whether an element breaks Twice in its role, a top behind no others.
-#[tactic(auto, unfolding(crate::specs::MemberRules::twice), using(crate::proofs::EnteredLists::none_tells))]
-pub fn twice(alloc: Global, role: Role, element: &Element<'_>) -> Result<bool, Memory>
-    ensures { IfOk result (λ again. again ≡ twice role element.now []) }
+fn repeats_in_top(alloc: Global, top: &Element<'_>) -> Result<bool, Memory>
+    ensures { IfOk result (λ again. again ≡ clashes (member_names top.now) []) }
+{
+    let mut seen = NameSet::new(alloc);
+    let are_apart = enter_top(top, &mut seen)?;
+    Ok(!are_apart)
+}
+
+/// Whether an element breaks Twice in its role, a top after no others.
+#[tactic(auto, unfolding(crate::specs::MemberRules::twice))]
+pub fn twice(alloc: Global, role: Role, formed: &Formed<'_, '_>) -> Result<bool, Memory>
+    ensures { IfOk result (λ again. again ≡ twice role formed.now.element.now []) }
 {
     match role {
-        Role::Top => {
-            let entered = enter_top(element, NameSet::new(alloc))?;
-            Ok(entered.is_none())
-        }
-        Role::Property(_) | Role::Item => repeats_member(alloc, element),
-        Role::Node => repeats_in_node(alloc, element),
+        Role::Top => repeats_in_top(alloc, formed.element),
+        Role::Property(_) | Role::Item => repeats_member(alloc, formed),
+        Role::Node => repeats_in_node(alloc, formed.element),
         _ => Ok(false),
     }
 }
@@ -181,23 +191,23 @@ pub fn tree_deep(role: Role, depth: u64, element: &Element<'_>) -> bool
     }
 }
 
-/// The least of these rules that an element breaks in its role, a top behind no others.
+/// The least of these rules that an element breaks in its role, a top after no others.
 #[tactic(auto, unfolding(crate::specs::MemberRules::member_rule))]
 pub fn member_rule(
     alloc: Global,
     role: Role,
     depth: u64,
-    element: &Element<'_>,
+    formed: &Formed<'_, '_>,
 ) -> Result<Option<Rule>, Memory>
-    ensures { IfOk result (λ rule. rule ≡ member_rule role depth element.now []) }
+    ensures { IfOk result (λ rule. rule ≡ member_rule role depth formed.now.element.now []) }
 {
-    if twice_value(role, element) {
+    if twice_value(role, formed) {
         return Ok(Some(Rule::TwiceValue));
     }
-    if twice(alloc, role, element)? {
+    if twice(alloc, role, formed)? {
         return Ok(Some(Rule::Twice));
     }
-    if tree_deep(role, depth, element) {
+    if tree_deep(role, depth, formed.element) {
         return Ok(Some(Rule::TreeDeep));
     }
     Ok(None)

@@ -192,7 +192,7 @@ fn rdf_name(role: Role, element: &Element<'_>) -> bool
     }
 }
 
-/// The least of these rules that an element breaks in its role, behind tops with this first
+/// The least of these rules that an element breaks in its role, after tops with this first
 /// about.
 #[tactic(auto, unfolding(crate::specs::NameRules::name_rule))]
 pub fn name_rule(role: Role, element: &Element<'_>, first: &[u8]) -> Option<Rule>

@@ -1,4 +1,4 @@
-use crate::{Holder, Role, broken, broken_top};
+use crate::{Formed, Holder, Role, broken, broken_top};
 use std::alloc::Global;
 use std::test::Fail;
 use xml_grammar::{Attributes, Child, Children, Element};
@@ -33,13 +33,18 @@ fn description(
 }
 
 fn rule_of(alloc: Global, role: Role, depth: u64, element: &Element<'_>) -> Option<Rule> {
-    broken(alloc, role, depth, element).ok()?
+    broken(alloc, role, depth, &Formed::of(element)).ok()?
 }
 
 fn has_no_rule(alloc: Global, depth: u64) -> bool {
     let property = element(alloc, OWN, "format");
     matches!(
-        broken(alloc, Role::Property(Holder::Top), depth, &property),
+        broken(
+            alloc,
+            Role::Property(Holder::Top),
+            depth,
+            &Formed::of(&property)
+        ),
         Ok(None)
     )
 }
@@ -60,15 +65,13 @@ fn rule_of_two(alloc: Global, space: &'static str, local: &'static str) -> Optio
     rule_of(alloc, Role::Node, 1, &node)
 }
 
-/// The rule that a second top breaks, behind one that breaks none.
-fn rule_behind(alloc: Global, first: &Element<'_>, second: &Element<'_>) -> Option<Rule> {
-    let Ok(Ok(seen)) = broken_top(first, b"".as_slice(), NameSet::new(alloc)) else {
+/// The rule that a second top breaks, after one that breaks none.
+fn rule_after(alloc: Global, first: &Element<'_>, second: &Element<'_>) -> Option<Rule> {
+    let mut seen = NameSet::new(alloc);
+    let Ok(None) = broken_top(first, b"".as_slice(), &mut seen) else {
         return None;
     };
-    match broken_top(second, b"".as_slice(), seen) {
-        Ok(Err(rule)) => Some(rule),
-        _ => None,
-    }
+    broken_top(second, b"".as_slice(), &mut seen).ok()?
 }
 
 fn rule_of_tops(alloc: Global) -> Option<Rule> {
@@ -82,7 +85,7 @@ fn rule_of_tops(alloc: Global) -> Option<Rule> {
         element(alloc, OWN, "source"),
         element(alloc, OWN, "format"),
     )?;
-    rule_behind(alloc, &first, &second)
+    rule_after(alloc, &first, &second)
 }
 
 #[test]

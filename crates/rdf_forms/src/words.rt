@@ -2,14 +2,14 @@
 ghost use Rattle.std.specs.Prelude.{◌≡◌};
 ghost use Rattle.rdf_forms.specs.Words.{is_rdf, is_meta, is_container, in_rdf, in_xml, in_none, is_lang, is_bare_about, is_own};
 
-use xmp_values::{Name, is_rdf_space, is_xml_space};
+use xmp_values::{Name, is_rdf_namespace, is_xml_namespace};
 
 /// Whether the name is in RDF's namespace.
 #[tactic(auto, unfolding(crate::specs::Words::in_rdf))]
 pub fn in_rdf(name: &Name<'_>) -> bool
     ensures { result ≡ in_rdf name.now }
 {
-    is_rdf_space(name.space.bytes())
+    is_rdf_namespace(name.space.bytes())
 }
 
 /// Whether the name is in XML's namespace, that of `xml:lang`.
@@ -17,7 +17,7 @@ pub fn in_rdf(name: &Name<'_>) -> bool
 pub fn in_xml(name: &Name<'_>) -> bool
     ensures { result ≡ in_xml name.now }
 {
-    is_xml_space(name.space.bytes())
+    is_xml_namespace(name.space.bytes())
 }
 
 /// Whether the name has no namespace.

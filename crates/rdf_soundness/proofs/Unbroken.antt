@@ -17,7 +17,7 @@ use Rattle.rdf_forms.specs.Rules.{or_else, broken_in, broken, placed, fault_at, 
 
 -- ---- an element
 
--- an element with its role, at a depth, behind tops with this first about and these names of members
+-- an element with its role, at a depth, after tops with this first about and these names of members
 pub record IsUnbroken (role : Role) (depth : ℕ) (e : Element) (first : List ℕ) (names : List Name) : Type 0 where
   pub has_rdf : no_rdf role e ≡ false
   pub is_description : not_description role e ≡ false

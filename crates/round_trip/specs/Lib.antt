@@ -1,2 +1,4 @@
 pub mod Elements
 pub mod Law
+pub mod Naming
+pub mod Packets

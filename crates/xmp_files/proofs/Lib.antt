@@ -1,4 +1,3 @@
 pub mod Loads
 pub mod OneStep
-pub mod Opens
 pub mod NeverMissing

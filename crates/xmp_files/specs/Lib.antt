@@ -1,10 +1,6 @@
 pub mod Kinds
 pub mod Faults
-pub mod Stages
-pub mod Keeping
 pub mod Loading
-pub mod Sparing
-pub mod Opening
-pub mod Planning
 pub mod Loads
+pub mod Opening
 pub mod Openings

@@ -1,61 +1,45 @@
 //! What is kept of a file that was read.
 ghost use Rattle.std.specs.Prelude.{◌≡◌};
-ghost use Rattle.std.specs.Option.{option_copied, option_map};
-ghost use Rattle.xmp_packets.specs.Packets.{packet_text};
-ghost use Rattle.xmp_files.specs.Keeping.{sidecar};
+ghost use Rattle.xmp_write.specs.Packets.{packet_text};
 
 use std::marker::Model;
-use xmp_packets::Packet;
 use xmp_values::Bytes;
+use xmp_write::Packet;
 
-/// What of a file is asked for.
-#[derive(Clone, Copy, Debug, PartialEq, Eq)]
-pub enum Need {
-    /// The packet alone.
-    Packet,
-    /// The blocks of other metadata too.
-    Blocks,
-}
-
-/// What is kept of a file. Contracts see its kind, its length, its payload with its place, how it
-/// is made up, and what it has of portions and blocks.
+/// The payload of a file's packet. Contracts see its bytes.
 #[derive(Debug, Drop)]
 pub struct Held {
-    need: Need,
     payload: Bytes,
 }
 
 impl Model for Held {
-    ghost use Rattle.xmp_files.specs.Keeping.{Kept, sidecar};
+    ghost use Rattle.std.specs.Prelude.{List, ℕ};
 
-    ghost Value = { Kept };
+    ghost Value = { List ℕ };
 
-    ghost view = { λ h. sidecar h.need h.payload };
+    ghost view = { λ h. h.payload };
 }
 
 impl Held {
-    /// What is kept of a sidecar of these bytes.
-    pub(crate) fn sidecar(need: Need, bytes: Bytes) -> Held
-        ensures { result ≡ sidecar need bytes }
+    /// What is held of a file with this payload.
+    pub(crate) fn new(payload: Bytes) -> Held
+        ensures { result ≡ payload }
     {
-        Held {
-            need,
-            payload: bytes,
-        }
+        Held { payload }
     }
 
-    /// The payload of the main packet, if there is one.
-    pub fn payload(&self) -> Option<&[u8]>
-        ensures { option_copied result ≡ option_map (λ piece. piece.bytes) self.now.payload }
+    /// The payload.
+    pub fn payload(&self) -> &[u8]
+        ensures { result.now ≡ self.now }
     {
-        Some(self.payload.as_slice())
+        self.payload.as_slice()
     }
 
-    /// The main packet's text: the payload without the zero bytes at its end.
-    pub fn text(&self) -> Option<&[u8]>
-        ensures { option_copied result ≡ option_map (λ piece. packet_text piece.bytes) self.now.payload }
+    /// The packet's text: the payload without the zero bytes at its end.
+    pub fn text(&self) -> &[u8]
+        ensures { result.now ≡ packet_text self.now }
     {
         let payload = self.payload.as_slice();
-        Some(&payload[..Packet::of(payload).text_len])
+        &payload[..Packet::of(payload).text_len]
     }
 }

@@ -1,4 +1,4 @@
--- The first fault of elements one behind another, and what is read unless there is one.
+-- The first fault of elements one after another, and what is read unless there is one.
 use Rattle.std.proofs.Common.{◌≡◌, List, [], ◌∷◌, ◌++◌, refl, sym, ap, ◌∙◌}
 use Rattle.std.specs.Prelude.{Option, Some, None, Result, Ok, Err}
 use Rattle.rdf_forms.specs.Visits.{Visit}
@@ -19,7 +19,7 @@ first_fault-append [] ws = refl
 first_fault-append (v ∷ vs) ws =
     ap (or_else (fault_at v)) (first_fault-append vs ws) ∙ sym (or_else_assoc (fault_at v) (first_fault vs) (first_fault ws))
 
--- what is read behind what was read
+-- what is read after what was read
 abbrev pub and_then : {X Y : Type 0} → Result X Fault → (X → Result Y Fault) → Result Y Fault
 and_then (Ok x) more = more x
 and_then (Err e) more = Err e

@@ -4,7 +4,7 @@ use Rattle.std.specs.Prelude.{Option, Some, None, Ok, MatchOption, IsTrue, find,
 use Rattle.std.specs.List.{list_all}
 use Rattle.std.proofs.lemmas.Bool.{not_from_true, not_from_false, false_from_ne_true}
 use Rattle.std.proofs.lemmas.Bool.Decides.{same_from_decides, Decides-and, Decides-by_and, Decides-eqb}
-use Rattle.std.proofs.lemmas.List.{map-append}
+use Rattle.std.proofs.lemmas.List.{map-append, length-map}
 use Rattle.std.proofs.lemmas.List.Elements.{filter-append}
 use Rattle.std.specs.Bool.{Decides}
 use Rattle.xmp_values.specs.Digits.{AreDigits, is_digit, capital}
@@ -15,11 +15,10 @@ use Rattle.xmp_tree.specs.Wf.{name_of, note_name, Wf}
 use Rattle.xml_grammar.specs.Sound.{IsSound}
 use Rattle.rdf_forms.specs.Words.{same_name}
 use Rattle.rdf_forms.specs.Rules.{fault_of}
-use Rattle.rdf_forms.specs.Meaning.{Placed, is_note, digits_in, tops_of, all_placed}
+use Rattle.rdf_forms.specs.Meaning.{Placed, Meaning, is_note, digits_in, tops_of, all_placed}
 use Rattle.rdf_forms.specs.NameRules.{first_about}
 use Rattle.rdf_soundness.proofs.Words.{same_name_is}
 use Rattle.rdf_soundness.proofs.TreeLaw.{formed_tree}
-use Rattle.xmp_rdf.specs.declared.meanings.Meaning.{Meaning}
 use Rattle.xmp_rdf.specs.declared.tops.Contents.{Contents}
 use Rattle.xmp_rdf.specs.Reading.{unless, read_root}
 use Rattle.xmp_rdf.specs.Parting.{parts_of, with_placed, member_digits, note_digits}
@@ -95,13 +94,13 @@ digits-read text (Some digits) told = ap Some told.1 ∙ ap (λ b. cond b (Some 
 -- the meaning made of what a document holds
 abbrev pub made : List Hint → Contents → Meaning
 made hints c =
-    let parts = parts_of c.placed in
+    let parts = c.parts in
     record { tree = record { about = c.about; props = parts.props }; hints = hints; note = note_digits parts.notes; places = parts.places }
 
 pub reading-made : (levels : ℕ) (root : Element) (hints : List Hint) → reading_within levels root hints ≡ and_then (read_root levels root) (λ c. Ok (made hints c))
 unfolding reading_within read_root
 reading-made levels root hints =
-    let contents : Contents = record { about = first_about (tops_of root); placed = all_placed levels root } in
+    let contents : Contents = record { about = first_about (tops_of root); parts = parts_of (all_placed levels root) } in
     let parts = parts_of (all_placed levels root) in
     let noted = λ (note : Option (List ℕ)).
     let meaning : Meaning = record { tree = record { about = first_about (tops_of root); props = parts.props }; hints = hints; note = note; places = parts.places } in meaning in
@@ -114,9 +113,19 @@ reading-most root hints = reading-made most_levels root hints
 
 -- a document that breaks no rule has a well-formed tree
 pub formed-parts : (levels : ℕ) (root : Element) (c : Contents) → 60 ≤ levels → IsSound root → read_root levels root ≡ Ok c →
-    Wf record { about = c.about; props = (parts_of c.placed).props }
+    Wf record { about = c.about; props = c.parts.props }
 unfolding read_root
 formed-parts levels root c enough sound is =
-    let contents : Contents = record { about = first_about (tops_of root); placed = all_placed levels root } in
+    let contents : Contents = record { about = first_about (tops_of root); parts = parts_of (all_placed levels root) } in
     let read = unless-ok (fault_of levels root) contents c is in
-    subst (λ (d : Contents). Wf record { about = d.about; props = (parts_of d.placed).props }) read.1 (formed_tree levels root enough sound read.0)
+    subst (λ (d : Contents). Wf record { about = d.about; props = d.parts.props }) read.1 (formed_tree levels root enough sound read.0)
+
+-- there are as many places as properties
+pub placed-parts : (levels : ℕ) (root : Element) (c : Contents) → read_root levels root ≡ Ok c → length c.parts.places ≡ length c.parts.props
+unfolding read_root
+placed-parts levels root c is =
+    let contents : Contents = record { about = first_about (tops_of root); parts = parts_of (all_placed levels root) } in
+    let read = unless-ok (fault_of levels root) contents c is in
+    let ps = filter (λ p. not (is_note p)) (all_placed levels root) in
+    let each : length (map (λ (p : Placed). p.0) ps) ≡ length (map (λ (p : Placed). p.1) ps) = length-map ps (λ (p : Placed). p.0) ∙ sym (length-map ps (λ (p : Placed). p.1)) in
+    subst (λ (d : Contents). length d.parts.places ≡ length d.parts.props) read.1 each

@@ -1,4 +1,4 @@
--- Reading elements one behind another, and an element by its form.
+-- Reading elements one after another, and an element by its form.
 use Rattle.std.proofs.Common.{ℕ, zero, suc, ◌≡◌, ◌≢◌, ◌<◌, ◌+◌, ◌-◌, List, [], ◌∷◌, ◌++◌, map, length, get_or, take, drop, refl, sym, ap, ◌∙◌, append_assoc, sub-one}
 use Rattle.std.specs.Prelude.{Option, Some, None, Result, Ok, Err}
 use Rattle.std.specs.List.{flat_map, cons_option}
@@ -47,7 +47,7 @@ form-members levels depth e =
     unless-made (first_fault (member_visits (property_visits levels) (members_holder e) depth (elements_of e)))
     (map (element_member (value_within levels)) (elements_of e)) (by_members (lang_of e) [])
 
--- behind the rules of a container itself
+-- after the rules of a container itself
 abbrev pub array_of : ℕ → ℕ → Element → Element → Result Value Fault
 array_of levels depth e c = and_then (read_items levels depth [] (elements_of c)) (λ vs. Ok (value (Array (kind_of (name_of c)) vs) (lang_of e)))
 
@@ -60,7 +60,7 @@ form-container levels depth e c =
     unless-and_then (fault_at (visit roles.Container depth c)) inside tt (array items)
     ∙ ap (λ (r : Result Value Fault). and_then (checked roles.Container depth c) (λ _. r)) (unless-made inside items array)
 
--- behind the rules of a node itself
+-- after the rules of a node itself
 abbrev pub node_of : ℕ → ℕ → Element → Element → Result Value Fault
 node_of levels depth e n =
     and_then (read_members levels (node_holder n) depth (node_members n) (elements_of n)) (λ ms. Ok (by_members (lang_of e) (type_of (name_of n)) ms))
@@ -74,7 +74,7 @@ form-node levels depth e n =
     unless-and_then (fault_at (visit roles.Node depth n)) inside tt (made members)
     ∙ ap (λ (r : Result Value Fault). and_then (checked roles.Node depth n) (λ _. r)) (unless-made inside members made)
 
--- ---- elements one behind another
+-- ---- elements one after another
 
 fault_of-append : (visits : Element → List Visit) (es fs : List Element) → first_fault (flat_map visits (es ++ fs)) ≡ or_else (first_fault (flat_map visits es)) (first_fault (flat_map visits fs))
 fault_of-append visits es fs = ap first_fault (flat_map-append visits es fs) ∙ first_fault-append (flat_map visits es) (flat_map visits fs)
@@ -136,13 +136,13 @@ items-element levels depth before c e is =
 
 -- ---- a loop over children
 
--- the elements among one child more, and those before a child and behind it
+-- the elements among one child more, and those before a child and after it
 pub elements_more : (cs : List Child) (i : ℕ) (c : Child) → i < length cs → c ≡ get_or cs i c → elements_in (take (i + 1) cs) ≡ elements_in (take i cs) ++ elements_in (c ∷ [])
 elements_more cs i c lt there =
     ap elements_in (take_more cs i c lt) ∙ filter_map-append element_at (take i cs) (get_or cs i c ∷ [])
     ∙ ap (λ d. elements_in (take i cs) ++ elements_in (d ∷ [])) (sym there)
 
--- the elements before a child, with it, and those behind it
+-- the elements before a child, with it, and those after it
 pub elements_split : (cs : List Child) (i : ℕ) → elements_in cs ≡ elements_in (take (i + 1) cs) ++ elements_in (drop (i + 1) cs)
 elements_split cs i = ap elements_in (sym (take-append-drop (i + 1) cs)) ∙ filter_map-append element_at (take (i + 1) cs) (drop (i + 1) cs)
 

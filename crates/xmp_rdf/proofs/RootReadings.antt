@@ -16,15 +16,16 @@ use Rattle.rdf_soundness.proofs.TreeLaw.{one_rdf}
 use Rattle.xmp_rdf.specs.declared.tops.Contents.{Contents}
 use Rattle.xmp_rdf.specs.Answering.{Fault}
 use Rattle.xmp_rdf.specs.Reading.{unless, checked, read_tops, read_rdf, read_root}
+use Rattle.xmp_rdf.specs.Parting.{parts_of}
 use Rattle.xmp_rdf.proofs.Faults.{and_then, unless-and_then, unless-made, unless-ok}
 
 -- what these tops give
 abbrev pub contents_of : ℕ → List Element → Contents
-contents_of levels ts = record { about = first_about ts; placed = flat_map (placed_in levels) ts }
+contents_of levels ts = record { about = first_about ts; parts = parts_of (flat_map (placed_in levels) ts) }
 
 -- the tops of `rdf:RDF` with what was read of them
 abbrev pub with_placed : Element → List Placed → Contents
-with_placed e ps = record { about = first_about (elements_of e); placed = ps }
+with_placed e ps = record { about = first_about (elements_of e); parts = parts_of ps }
 
 pub rdf-read : (levels : ℕ) (e : Element) →
     read_rdf levels e ≡ and_then (checked roles.Rdf 0 e) (λ _. and_then (read_tops levels [] [] (elements_of e)) (λ ps. Ok (with_placed e ps)))

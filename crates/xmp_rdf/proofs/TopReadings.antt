@@ -1,9 +1,10 @@
--- Reading tops one behind another, and a top by its parts.
+-- Reading tops one after another, and a top by its parts.
 use Rattle.std.proofs.Common.{ℕ, ◌≡◌, ◌<◌, ◌+◌, Bool, true, false, cond, List, [], ◌∷◌, ◌++◌, map, length, get_or, take, drop, refl, sym, ap, subst, ◌∙◌, append_assoc}
-use Rattle.std.specs.Prelude.{Option, Some, None, Ok, Err, if◌then◌else◌}
+use Rattle.std.specs.Prelude.{Option, Some, None, Ok, Err, filter, if◌then◌else◌}
 use Rattle.std.specs.List.{flat_map}
 use Rattle.std.specs.Str.{bytes_eq}
-use Rattle.std.proofs.lemmas.List.{append-nil}
+use Rattle.std.proofs.lemmas.List.{append-nil, map-append, take_more}
+use Rattle.std.proofs.lemmas.List.Elements.{filter-append}
 use Rattle.std.proofs.lemmas.List.Concat.{flat_map-append}
 use Rattle.std.proofs.lemmas.Slice.Eq.{bytes_eq-Decides}
 use Rattle.xmp_values.specs.declared.text.Name.{Name}
@@ -13,6 +14,7 @@ use Rattle.xml_grammar.specs.declared.elements.Child.{Child}
 use Rattle.xml_grammar.specs.declared.elements.Child.TheVariants as child
 use Rattle.rdf_forms.specs.declared.roles.Role.TheVariants as roles
 use Rattle.rdf_forms.specs.declared.roles.Holder.TheVariants as holders
+use Rattle.rdf_forms.specs.Words.{is_own}
 use Rattle.rdf_forms.specs.Parts.{name_of, place_of, elements_in, elements_of, own_attributes}
 use Rattle.rdf_forms.specs.Visits.{Visit, member_depth, member_visits, property_visits, top_visits}
 use Rattle.rdf_forms.specs.Values.{attribute_member, value_within}
@@ -31,9 +33,9 @@ use Rattle.xmp_rdf.specs.Gathering.{IsBehind, Enters}
 use Rattle.xmp_rdf.proofs.Faults.{first_fault-append, and_then, unless-and_then, unless-made}
 use Rattle.xmp_rdf.proofs.Readings.{all_behind, in-element, in-text, elements_more, elements_split}
 
--- ---- tops one behind another
+-- ---- tops one after another
 
--- a top behind earlier ones
+-- a top after earlier ones
 abbrev top_visit : List Element → Element → Visit
 top_visit earlier t = record { role = roles.Top; depth = 0; element = t; earlier = earlier }
 
@@ -115,7 +117,7 @@ unfolding checked_top broken
 top-checked earlier t rule is = ap (λ r. unless (placed (place_of t) r) tt) is
 
 pub top-entered : (earlier : List Element) (t : Element) (first : List ℕ) (names set : List Name) → IsBehind earlier first names →
-    ((ns : List Name) → Holds names ns → IsTop t first ns set) → Enters earlier t (Ok set)
+    ((ns : List Name) → Holds names ns → IsTop t first ns set) → Enters earlier t (Ok tt) set
 top-entered earlier t first names set behind told =
     let top = told (flat_map member_names earlier) behind.holds in (
       top-checked earlier t None (ap (λ f. broken_in roles.Top 0 t f (flat_map member_names earlier)) (sym behind.about) ∙ top.unbroken),
@@ -165,3 +167,33 @@ tops-loop-stop levels before ps earlier cs i c lt there so_far f halts =
     ap (read_tops levels before earlier) (elements_split cs i)
     ∙ tops-append levels before earlier front rest
     ∙ ap (λ r. and_then r (λ qs. read_tops levels qs (earlier ++ front) rest)) (tops-loop-more levels before ps earlier cs i c lt there so_far ∙ halts)
+
+-- ---- a loop over the attributes of a top
+
+-- what was read before, and the property attributes among the first ones
+abbrev pub first_attributes : Element → List Placed → List Attribute → ℕ → List Placed
+first_attributes t before xs i = before ++ map (λ (a : Attribute). (place_of t, attribute_member a)) (filter (λ (a : Attribute). is_own a.name) (take i xs))
+
+pub attributes-more : (t : Element) (before : List Placed) (xs : List Attribute) (i : ℕ) (a : Attribute) → i < length xs → a ≡ get_or xs i a →
+    (is_own a.name ≡ true → first_attributes t before xs (i + 1) ≡ first_attributes t before xs i ++ (place_of t, attribute_member a) ∷ [])
+    × (is_own a.name ≡ false → first_attributes t before xs (i + 1) ≡ first_attributes t before xs i)
+attributes-more t before xs i a lt here = (λ is. split ∙ last true is, λ is. split ∙ last false is)
+  where
+    placed : Attribute → Placed
+    placed b = (place_of t, attribute_member b)
+
+    own : Attribute → Bool
+    own b = is_own b.name
+
+    kept : List Attribute
+    kept = filter own (take i xs)
+
+    split : before ++ map placed (filter own (take (i + 1) xs)) ≡ before ++ map placed (kept ++ filter own (a ∷ []))
+    split = ap (λ ys. before ++ map placed ys)
+        (ap (filter own) (take_more xs i a lt ∙ ap (λ (b : Attribute). take i xs ++ b ∷ []) (sym here)) ∙ filter-append own (take i xs) (a ∷ []))
+
+    last : (b : Bool) → own a ≡ b → before ++ map placed (kept ++ filter own (a ∷ [])) ≡ cond b ((before ++ map placed kept) ++ placed a ∷ []) (before ++ map placed kept)
+    last true is =
+        ap (λ b. before ++ map placed (kept ++ cond b (a ∷ []) [])) is ∙ ap (λ ps. before ++ ps) (map-append placed kept (a ∷ []))
+        ∙ sym (append_assoc before (map placed kept) (placed a ∷ []))
+    last false is = ap (λ b. before ++ map placed (kept ++ cond b (a ∷ []) [])) is ∙ ap (λ ys. before ++ map placed ys) (append-nil kept)

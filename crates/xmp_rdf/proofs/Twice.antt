@@ -46,6 +46,14 @@ only : (a b : Bool) → b ≡ false → (a || b) ≡ true → a ≡ true
 only true b fails e = refl
 only false b fails e = sym fails ∙ e
 
+-- the number of a property that stands in the first is one of the second's
+pub stands_within : (main more : List Member) (at : ℕ) → first_twice main more ≡ Some at → at < length more
+stands_within main more at is = by (nat_lt (position_or_len (stands_in main) more) (length more)) refl is
+  where
+    by : (b : Bool) → nat_lt (position_or_len (stands_in main) more) (length more) ≡ b → cond b (Some (position_or_len (stands_in main) more)) None ≡ Some at → at < length more
+    by true lt there = let same : position_or_len (stands_in main) more ≡ at = cc in grind (arith, nat_tests, lt, same)
+    by false lt there = absurd cc
+
 pub none_found : (main more : List Member) (at : ℕ) → at ≤ length more → length more ≤ at
     → ((k : ℕ) (d : Member) → k < at → stands_in main (get_or more k d) ≡ false) → None ≡ first_twice main more
 none_found main [] at le all before = refl

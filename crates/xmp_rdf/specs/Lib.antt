@@ -1,7 +1,8 @@
 pub mod Answering
+pub mod Parting
 pub mod Reading
 pub mod Gathering
-pub mod Parting
+pub mod Modelled
 pub mod Meanings
 pub mod Merging
 pub mod SpaceSets

@@ -2,20 +2,15 @@
 use Rattle.std.specs.Prelude.{ℕ, List, Result}
 use Rattle.xmp_values.specs.declared.hints.Hint.{Hint}
 use Rattle.xml_grammar.specs.declared.elements.Element.{Element}
-use Rattle.rdf_forms.specs.Meaning as meant
+use Rattle.rdf_forms.specs.Meaning.{Meaning, meaning_of}
 use Rattle.rdf_forms.specs.Rules.{fault_of}
-use Rattle.xmp_rdf.specs.declared.meanings.Meaning.{Meaning}
 use Rattle.xmp_rdf.specs.Answering.{Fault}
 use Rattle.xmp_rdf.specs.Reading.{unless}
-
--- the tree, the note and the places of a document with fewer levels of elements in it than `levels`, with its hints
-abbrev pub meaning_of : ℕ → Element → List Hint → Meaning
-meaning_of levels root hints = record { tree = meant.tree_of levels root; hints = hints; note = meant.note_of levels root; places = meant.places_of levels root }
 
 unfoldable pub reading_within : ℕ → Element → List Hint → Result Meaning Fault
 reading_within levels root hints = unless (fault_of levels root) (meaning_of levels root hints)
 
--- the levels of elements that a document has at most
+-- the levels of elements that a document has at most; more change nothing
 abbrev pub most_levels : ℕ
 most_levels = 100
 

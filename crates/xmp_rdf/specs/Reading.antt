@@ -17,6 +17,7 @@ use Rattle.rdf_forms.specs.Rules.{fault_at, first_fault, fault_of}
 use Rattle.rdf_forms.specs.Meaning.{Placed, tops_of, placed_in, all_placed}
 use Rattle.xmp_rdf.specs.declared.tops.Contents.{Contents}
 use Rattle.xmp_rdf.specs.Answering.{Fault}
+use Rattle.xmp_rdf.specs.Parting.{parts_of}
 
 -- what is read, unless there is a fault
 abbrev pub unless : {Y : Type 0} → Option Fault → Y → Result Y Fault
@@ -35,7 +36,7 @@ read_within levels role depth e = unless (first_fault (property_visits levels ro
 unfoldable pub read_form : ℕ → ℕ → Element → Form → Result Value Fault
 read_form levels depth e form = unless (first_fault (form_visits (property_visits levels) depth e form)) (formed (value_within levels) e form)
 
--- elements, each by its visits and by what it means, behind what was read before them
+-- elements, each by its visits and by what it means, after what was read before them
 unfoldable pub read_all : {X : Type 0} → (Element → List Visit) → (Element → X) → List X → List Element → Result (List X) Fault
 read_all visits meaning before es = unless (first_fault (flat_map visits es)) (before ++ map meaning es)
 
@@ -62,18 +63,18 @@ placed_member levels c = (place_of c, element_member (value_within levels) c)
 abbrev pub read_placed : ℕ → List Placed → List Element → Result (List Placed) Fault
 read_placed levels = read_all (visits_in levels holders.Top 0) (placed_member levels)
 
--- a top by itself, behind earlier ones
+-- a top by itself, after earlier ones
 unfoldable pub checked_top : List Element → Element → Result (Unit {0}) Fault
 checked_top earlier t = unless (fault_at record { role = roles.Top; depth = 0; element = t; earlier = earlier }) tt
 
--- tops behind earlier ones
+-- tops after earlier ones
 unfoldable pub read_tops : ℕ → List Placed → List Element → List Element → Result (List Placed) Fault
 read_tops levels before earlier ts = unless (first_fault (top_visits levels earlier ts)) (before ++ flat_map (placed_in levels) ts)
 
--- the tops of `rdf:RDF`
+-- the tops of `rdf:RDF`, their members with the note apart
 unfoldable pub read_rdf : ℕ → Element → Result Contents Fault
-read_rdf levels e = unless (first_fault (rdf_visits levels e)) record { about = first_about (elements_of e); placed = flat_map (placed_in levels) (elements_of e) }
+read_rdf levels e = unless (first_fault (rdf_visits levels e)) record { about = first_about (elements_of e); parts = parts_of (flat_map (placed_in levels) (elements_of e)) }
 
 -- the tops of a document
 unfoldable pub read_root : ℕ → Element → Result Contents Fault
-read_root levels root = unless (fault_of levels root) record { about = first_about (tops_of root); placed = all_placed levels root }
+read_root levels root = unless (fault_of levels root) record { about = first_about (tops_of root); parts = parts_of (all_placed levels root) }

@@ -28,7 +28,7 @@ pub fn about_again<'p>(alloc: Global, about: Option<&Text<'p>>) -> Result<Text<'
     ensures { IfOk result (λ t. t ≡ about_in about.entry) }
 {
     match about {
-        Some(text) => text.again(alloc),
+        Some(text) => text.try_clone(alloc),
         None => Ok(Text::raw(b"".as_slice())),
     }
 }

@@ -15,7 +15,7 @@ mod merging;
 mod merging_tests;
 mod owning;
 mod parting;
-mod stops;
+mod reading;
 #[cfg(test)]
 mod tests;
 mod texts;
@@ -23,7 +23,8 @@ mod tops;
 mod values;
 mod walk;
 
-pub use meanings::{Meaning, Places, tree_of};
+pub use meanings::{Meaning, Places};
 pub use merging::{MergeStop, merge};
 pub use owning::own;
-pub use stops::RdfStop;
+pub use reading::tree_of;
+pub use xmp_values::PlaceStop as RdfStop;

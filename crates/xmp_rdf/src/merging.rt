@@ -1,11 +1,12 @@
 //! Two meanings merged: that of a packet and that of its extended text.
-ghost use Rattle.std.specs.Prelude.{◌≡◌, ◌++◌, ◌∷◌, [], not, map, position, slice_index, None, IfOk, OnOk};
+ghost use Rattle.std.specs.Prelude.{◌≡◌, ◌<◌, ◌++◌, ◌∷◌, [], not, map, length, slice_index, None, IfOk, OnOk};
 ghost use Rattle.std.specs.List.{list_any};
 ghost use Rattle.xmp_tree.specs.Wf.{name_of, NamesDiffer};
 ghost use Rattle.rdf_forms.specs.Words.{same_name};
 ghost use Rattle.rdf_forms.specs.Entering.{Holds};
-ghost use Rattle.rdf_forms.specs.Merging.{first_twice, both_trees};
-ghost use Rattle.xmp_rdf.specs.Merging.{both, merged, Gives};
+ghost use Rattle.xmp_values.specs.Stops.{Gives};
+ghost use Rattle.rdf_forms.specs.Merging.{first_twice, both_trees, both, merged};
+ghost use Rattle.xmp_rdf.specs.Merging.{twice_of};
 
 use crate::hints::merge_hints;
 use crate::meanings::Meaning;
@@ -18,7 +19,7 @@ use xmp_values::{Memory, NameSet};
 pub enum MergeStop {
     /// A property stands in both. It is the second's first such, by its place in bytes.
     Twice(u64),
-    /// Memory was wanted, and there was none.
+    /// Out of memory.
     Memory,
 }
 
@@ -76,7 +77,7 @@ fn tree_twice(alloc: Global, main: &Tree<'_>, more: &Tree<'_>) -> Result<Option<
     first_twice(alloc, main.props.as_slice(), more.props.as_slice())
 }
 
-/// The properties of `more` behind those of `main`, under main's about.
+/// The properties of `more` after those of `main`, under main's about.
 fn merge_trees<'p>(main: Tree<'p>, more: Tree<'p>) -> Result<Tree<'p>, Memory>
     requires { first_twice main.props more.props ≡ None }
     ensures { IfOk result (λ t. t ≡ both_trees main.entry more.entry) }
@@ -88,6 +89,14 @@ fn merge_trees<'p>(main: Tree<'p>, more: Tree<'p>) -> Result<Tree<'p>, Memory>
     } = more;
     props.append(others)?;
     Ok(Tree { about, props })
+}
+
+/// The place of a property.
+fn place_of(meaning: &Meaning<'_>, at: usize) -> u64
+    requires { at < length meaning.now.tree.props }
+    ensures { result ≡ slice_index meaning.now.places at }
+{
+    meaning.places.as_slice()[at]
 }
 
 /// Both, where no property stands in both.
@@ -107,23 +116,17 @@ fn both<'p>(alloc: Global, main: Meaning<'p>, more: Meaning<'p>) -> Result<Meani
     })
 }
 
-fn place_at(places: &[u64], at: usize) -> u64
-    ensures { result ≡ slice_index places.now at }
-{
-    places.get(at).copied().unwrap_or(0)
-}
-
-/// The properties, places and new hints of `more` behind those of `main`, whose about and note
+/// The properties, places and new hints of `more` after those of `main`, whose about and note
 /// it has. The parts are moved. The time grows as n log n with the number of names and hints.
 pub fn merge<'p>(
     alloc: Global,
     main: Meaning<'p>,
     more: Meaning<'p>,
 ) -> Result<Meaning<'p>, MergeStop>
-    ensures { Gives result (merged main.entry more.entry) }
+    ensures { Gives twice_of result (merged main.entry more.entry) }
 {
     if let Some(at) = tree_twice(alloc, &main.tree, &more.tree)? {
-        return Err(MergeStop::Twice(place_at(more.places.as_slice(), at)));
+        return Err(MergeStop::Twice(place_of(&more, at)));
     }
     Ok(both(alloc, main, more)?)
 }

@@ -20,7 +20,7 @@ pub fn own<'q>(alloc: Global, meaning: &Meaning<'_>) -> Result<Meaning<'q>, Memo
     ensures { IfOk result (λ m. m ≡ meaning.now) }
 {
     let tree = copy(alloc, &meaning.tree)?;
-    let hints = meaning.hints.again(alloc)?;
+    let hints = meaning.hints.try_clone(alloc)?;
     let note = note_again(&meaning.note);
     let places = Places::from_slice(alloc, meaning.places.as_slice())?;
     Ok(Meaning {

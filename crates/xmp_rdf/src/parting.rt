@@ -1,12 +1,11 @@
 //! The members of a document with the note apart, which is no property.
-ghost use Rattle.std.specs.Prelude.{◌≡◌, IfOk};
+ghost use Rattle.std.specs.Prelude.{◌≡◌, [], OnOk};
 ghost use Rattle.xmp_tree.specs.Wf.{name_of, note_name};
 ghost use Rattle.rdf_forms.specs.Words.{same_name};
 ghost use Rattle.rdf_forms.specs.Meaning.{digits_in};
 ghost use Rattle.xmp_rdf.specs.Parting.{parts_of, with_placed, note_digits};
 
 use crate::meanings::Places;
-use crate::tops::Placed;
 use std::alloc::Global;
 use xmp_tree::{Member, Members, Shape, is_note};
 use xmp_values::{Digits, Memory};
@@ -27,40 +26,30 @@ fn is_note_member(member: &Member<'_>) -> bool
     is_note(&member.name)
 }
 
-fn with_placed<'p>(before: Parted<'p>, place: u64, member: Member<'p>) -> Result<Parted<'p>, Memory>
-    ensures { IfOk result (λ p. p ≡ with_placed before.entry (place, member.entry)) }
-{
-    let Parted {
-        mut props,
-        mut places,
-        mut notes,
-    } = before;
-    if is_note_member(&member) {
-        notes.push(member)?;
-    } else {
-        props.push(member)?;
-        places.push(place)?;
+impl<'p> Parted<'p> {
+    /// No members, which takes no memory.
+    pub fn new(alloc: Global) -> Parted<'p>
+        ensures { result ≡ parts_of [] }
+    {
+        Parted {
+            props: Members::new(alloc),
+            places: Places::new(alloc),
+            notes: Members::new(alloc),
+        }
     }
-    Ok(Parted {
-        props,
-        places,
-        notes,
-    })
-}
 
-/// The members of a document with the note apart. They are moved.
-pub fn parts_of<'p>(alloc: Global, placed: Placed<'p>) -> Result<Parted<'p>, Memory>
-    ensures { IfOk result (λ p. p ≡ parts_of placed.entry) }
-{
-    let mut parts = Parted {
-        props: Members::new(alloc),
-        places: Places::new(alloc),
-        notes: Members::new(alloc),
-    };
-    for (place, member) in placed.into_vec() {
-        parts = with_placed(parts, place, member)?;
+    /// Puts a member with its place at the end.
+    pub fn push(&mut self, place: u64, member: Member<'p>) -> Result<(), Memory>
+        ensures { OnOk result (self.new ≡ with_placed self.old (place, member.entry)) }
+    {
+        if is_note_member(&member) {
+            self.notes.push(member)?;
+        } else {
+            self.props.push(member)?;
+            self.places.push(place)?;
+        }
+        Ok(())
     }
-    Ok(parts)
 }
 
 fn digits_in(text: &[u8]) -> Option<Digits>

@@ -70,7 +70,7 @@ fn push_name(out: &mut Vec<u8>, name: &Name<'_>) -> Result<(), AllocError> {
     out.extend_from_slice(name.local.bytes())
 }
 
-/// Writes a value as its shape and its qualifiers behind it.
+/// Writes a value as its shape and its qualifiers after it.
 #[cycle(show)]
 fn push_value(out: &mut Vec<u8>, value: &Value<'_>) -> Result<(), AllocError> {
     match &value.shape {
@@ -204,7 +204,7 @@ fn the_forms_of_properties_give_their_values(rt: HostRuntime) -> Result<(), Fail
 }
 
 /// Properties of one top, a rule that one of them or an element in it breaks, and its place
-/// behind the head.
+/// after the head.
 const BROKEN: [(&str, Rule, u64); 12] = [
     ("<a/>", Rule::NoNamespace, 0),
     ("<dc:a b=\"\"/>", Rule::NoNamespace, 0),

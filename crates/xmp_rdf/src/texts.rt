@@ -8,7 +8,7 @@ use std::alloc::Global;
 use xml_grammar::{Child, Element};
 use xmp_values::{Memory, Sequence, Text};
 
-/// One text behind another, in a copy.
+/// One text after another, in a copy.
 pub fn joined<'q>(alloc: Global, first: &Text<'_>, second: &Text<'_>) -> Result<Text<'q>, Memory>
     ensures { IfOk result (λ t. t ≡ first.now ++ second.now) }
 {
@@ -61,7 +61,7 @@ pub fn own_text<'p>(alloc: Global, element: &Element<'p>) -> Result<Text<'p>, Me
         return Ok(Text::raw(b"".as_slice()));
     }
     match only_text(children) {
-        Some(text) => text.again(alloc),
+        Some(text) => text.try_clone(alloc),
         None => joined_texts(alloc, children),
     }
 }

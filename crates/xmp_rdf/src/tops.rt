@@ -1,28 +1,27 @@
 //! The tops of a document: their properties with their places, and the first rule that is broken.
-ghost use Rattle.std.specs.Prelude.{◌≡◌, ◌<◌, ◌++◌, ◌∷◌, ◌^◌, [], List, IfOk, map, codes};
-ghost use Rattle.std.specs.Str.{bytes_eq};
+ghost use Rattle.std.specs.Prelude.{◌≡◌, ◌<◌, ◌++◌, ◌∷◌, ◌^◌, [], List, OnOk, map, codes};
 ghost use Rattle.xml_grammar.specs.declared.elements.Element.{Element as ElementView};
 ghost use Rattle.xml_grammar.specs.declared.elements.Attribute.{Attribute as AttributeView};
+ghost use Rattle.xmp_values.specs.Stops.{place_of as told_of, Gives};
 ghost use Rattle.rdf_forms.specs.Words.{is_rdf};
 ghost use Rattle.rdf_forms.specs.Parts.{name_of, place_of, elements_in, own_attributes};
 ghost use Rattle.rdf_forms.specs.Values.{attribute_member};
 ghost use Rattle.rdf_forms.specs.FormViews.{about_in};
-ghost use Rattle.xmp_rdf.specs.Answering.{Gives};
+ghost use Rattle.rdf_forms.specs.Meaning.{Placed};
 ghost use Rattle.xmp_rdf.specs.Reading.{read_placed, read_rdf, read_root};
-ghost use Rattle.xmp_rdf.specs.Gathering.{IsBehind, Enters, Gathers};
+ghost use Rattle.xmp_rdf.specs.Parting.{parts_of};
+ghost use Rattle.xmp_rdf.specs.Gathering.{IsBehind, Enters, Parts, Gathers};
 
+use crate::RdfStop;
 use crate::abouts::{about_again, first_about};
 use crate::members::attribute_member;
-use crate::stops::RdfStop;
+use crate::parting::Parted;
 use crate::walk::{check, member_depth, property};
-use rdf_forms::{Holder, Role, about_bytes, broken_top, first_element, is_own, is_rdf};
+use rdf_forms::{Formed, Holder, Role, about_bytes, broken_top, first_element, is_own, is_rdf};
 use std::alloc::Global;
-use xml_grammar::{Attribute, Child, Element};
+use xml_grammar::{Child, Element};
 use xmp_tree::Member;
-use xmp_values::{Memory, NameSet, Sequence, Text};
-
-/// Properties, each with its place: of its element, or of the top for a property attribute.
-pub type Placed<'p> = Sequence<(u64, Member<'p>)>;
+use xmp_values::{Memory, NameSet, Text};
 
 /// What the tops so far give.
 #[derive(Drop)]
@@ -31,163 +30,148 @@ pub struct Gathered<'e, 'p> {
     pub first: Option<&'e Text<'p>>,
     /// The names of the properties.
     pub names: NameSet<'e>,
-    pub placed: Placed<'p>,
+    pub parts: Parted<'p>,
 }
 
 /// What the tops of a document give.
 #[derive(Drop)]
 pub struct Contents<'p> {
     pub about: Text<'p>,
-    pub placed: Placed<'p>,
+    pub parts: Parted<'p>,
 }
 
 // ---- one top
 
-/// Enters the names of a top's properties, where the top breaks no rule behind those before it.
-fn with_names<'e>(
-    first: &[u8],
-    names: NameSet<'e>,
-    top: &'e Element<'_>,
-) -> Result<NameSet<'e>, RdfStop>
-    ensures { (earlier : List ElementView) → IsBehind earlier first.now names.entry → Enters earlier top.now result }
+/// Enters the names of a top's properties, where the top breaks no rule after those before it.
+fn add_names<'e>(first: &[u8], names: &mut NameSet<'e>, top: &'e Element<'_>) -> Result<(), RdfStop>
+    ensures { (earlier : List ElementView) → IsBehind earlier first.now names.old → Enters earlier top.now result names.new }
 {
     match broken_top(top, first, names)? {
-        Ok(more) => Ok(more),
-        Err(rule) => Err(RdfStop::Fault(rule, top.at())),
+        None => Ok(()),
+        Some(rule) => Err(RdfStop::Fault(rule, top.at())),
     }
 }
 
-/// The property attributes of a top behind what was read before.
-fn with_attributes<'p>(
+/// Adds the property attributes of a top.
+fn add_attributes<'p>(
     alloc: Global,
-    before: Placed<'p>,
+    parts: &mut Parted<'p>,
     top: &Element<'p>,
-) -> Result<Placed<'p>, Memory>
-    ensures { IfOk result (λ ps. ps ≡ before.entry ++ map (λ (a : AttributeView). (place_of top.now, attribute_member a)) (own_attributes top.now)) }
+) -> Result<(), Memory>
+    ensures { (before : List Placed) → parts.old ≡ parts_of before → OnOk result (parts.new ≡ parts_of (before ++ map (λ (a : AttributeView). (place_of top.now, attribute_member a)) (own_attributes top.now))) }
 {
-    let mut placed = before;
     for attribute in top.attributes.as_slice() {
         if is_own(&attribute.name) {
-            placed.push((top.at(), attribute_member(alloc, attribute)?))?;
+            parts.push(top.at(), attribute_member(alloc, attribute)?)?;
         }
     }
-    Ok(placed)
+    Ok(())
 }
 
-/// A child of a top, if it is an element, behind what was read before.
-fn with_child<'p>(
+/// Adds a child of a top, if it is an element.
+fn add_child<'p>(
     alloc: Global,
     levels: u64,
-    before: Placed<'p>,
+    parts: &mut Parted<'p>,
     child: &Child<'p>,
-) -> Result<Placed<'p>, RdfStop>
+) -> Result<(), RdfStop>
     requires { levels < 2 ^ 63 }
-    ensures { Gives result (read_placed levels before.entry (elements_in (child.now ∷ []))) }
+    ensures { (before : List Placed) → parts.old ≡ parts_of before → Parts result parts.new (read_placed levels before (elements_in (child.now ∷ []))) }
 {
     let Child::Element(element) = child else {
-        return Ok(before);
+        return Ok(());
     };
     let role = Role::Property(Holder::Top);
     let value = property(alloc, levels, role, member_depth(0, element), element)?;
-    let name = element.name.again(alloc)?;
-    let mut placed = before;
-    placed.push((element.at(), Member { name, value }))?;
-    Ok(placed)
+    let name = element.name.try_clone(alloc)?;
+    parts.push(element.at(), Member { name, value })?;
+    Ok(())
 }
 
-/// The children of a top behind what was read before.
-fn with_children<'p>(
+/// Adds the children of a top.
+fn add_children<'p>(
     alloc: Global,
     levels: u64,
-    before: Placed<'p>,
+    parts: &mut Parted<'p>,
     children: &[Child<'p>],
-) -> Result<Placed<'p>, RdfStop>
+) -> Result<(), RdfStop>
     requires { levels < 2 ^ 63 }
-    ensures { Gives result (read_placed levels before.entry (elements_in children.now)) }
+    ensures { (before : List Placed) → parts.old ≡ parts_of before → Parts result parts.new (read_placed levels before (elements_in children.now)) }
 {
-    let mut placed = before;
     for child in children {
-        placed = with_child(alloc, levels, placed, child)?;
+        add_child(alloc, levels, parts, child)?;
     }
-    Ok(placed)
+    Ok(())
 }
 
-/// The about, the names and the properties of a top, behind the tops before it.
-fn with_top<'e, 'p>(
+/// Adds the about, the names and the properties of a top.
+fn add_top<'e, 'p>(
     alloc: Global,
     levels: u64,
-    before: Gathered<'e, 'p>,
+    gathered: &mut Gathered<'e, 'p>,
     top: &'e Element<'p>,
-) -> Result<Gathered<'e, 'p>, RdfStop>
+) -> Result<(), RdfStop>
     requires { levels < 2 ^ 63 }
-    ensures { (earlier : List ElementView) → IsBehind earlier (about_in before.entry.first) before.entry.names → Gathers levels before.entry.placed earlier (top.now ∷ []) result }
+    ensures { (before : List Placed) (earlier : List ElementView) → gathered.old.parts ≡ parts_of before → IsBehind earlier (about_in gathered.old.first) gathered.old.names → Gathers levels before earlier (top.now ∷ []) result gathered.new }
 {
-    let Gathered {
-        first,
-        names,
-        placed,
-    } = before;
-    let names = with_names(about_bytes(first), names, top)?;
-    let placed = with_attributes(alloc, placed, top)?;
-    let placed = with_children(alloc, levels, placed, top.children.as_slice())?;
-    Ok(Gathered {
-        first: first_about(first, top),
-        names,
-        placed,
-    })
+    add_names(about_bytes(gathered.first), &mut gathered.names, top)?;
+    add_attributes(alloc, &mut gathered.parts, top)?;
+    add_children(alloc, levels, &mut gathered.parts, top.children.as_slice())?;
+    gathered.first = first_about(gathered.first, top);
+    Ok(())
 }
 
 // ---- the tops
 
-/// A child of `rdf:RDF`, if it is an element, behind the tops before it.
-fn with_top_at<'e, 'p>(
+/// Adds a child of `rdf:RDF`, if it is an element.
+fn add_top_at<'e, 'p>(
     alloc: Global,
     levels: u64,
-    before: Gathered<'e, 'p>,
+    gathered: &mut Gathered<'e, 'p>,
     child: &'e Child<'p>,
-) -> Result<Gathered<'e, 'p>, RdfStop>
+) -> Result<(), RdfStop>
     requires { levels < 2 ^ 63 }
-    ensures { (earlier : List ElementView) → IsBehind earlier (about_in before.entry.first) before.entry.names → Gathers levels before.entry.placed earlier (elements_in (child.now ∷ [])) result }
+    ensures { (before : List Placed) (earlier : List ElementView) → gathered.old.parts ≡ parts_of before → IsBehind earlier (about_in gathered.old.first) gathered.old.names → Gathers levels before earlier (elements_in (child.now ∷ [])) result gathered.new }
 {
     match child {
-        Child::Element(top) => with_top(alloc, levels, before, top),
-        Child::Text(_) => Ok(before),
+        Child::Element(top) => add_top(alloc, levels, gathered, top),
+        Child::Text(_) => Ok(()),
     }
 }
 
-/// The tops among the children of `rdf:RDF`.
-fn tops_of<'e, 'p>(
+/// Adds the tops among the children of `rdf:RDF`, before which nothing was gathered.
+fn add_tops<'e, 'p>(
     alloc: Global,
     levels: u64,
+    gathered: &mut Gathered<'e, 'p>,
     children: &'e [Child<'p>],
-) -> Result<Gathered<'e, 'p>, RdfStop>
+) -> Result<(), RdfStop>
     requires { levels < 2 ^ 63 }
-    ensures { Gathers levels [] [] (elements_in children.now) result }
+    ensures { gathered.old.parts ≡ parts_of [] → IsBehind [] (about_in gathered.old.first) gathered.old.names → Gathers levels [] [] (elements_in children.now) result gathered.new }
 {
-    let mut gathered = Gathered {
-        first: None,
-        names: NameSet::new(alloc),
-        placed: Placed::new(alloc),
-    };
     for child in children {
-        gathered = with_top_at(alloc, levels, gathered, child)?;
+        add_top_at(alloc, levels, gathered, child)?;
     }
-    Ok(gathered)
+    Ok(())
 }
 
 /// What `rdf:RDF` holds.
 fn rdf_contents<'p>(alloc: Global, levels: u64, rdf: &Element<'p>) -> Result<Contents<'p>, RdfStop>
     requires { levels < 2 ^ 63 }
-    ensures { Gives result (read_rdf levels rdf.now) }
+    ensures { Gives told_of result (read_rdf levels rdf.now) }
 {
-    check(alloc, Role::Rdf, 0, rdf)?;
-    let Gathered {
-        first,
-        names: _,
-        placed,
-    } = tops_of(alloc, levels, rdf.children.as_slice())?;
-    let about = about_again(alloc, first)?;
-    Ok(Contents { about, placed })
+    check(alloc, Role::Rdf, 0, &Formed::of(rdf))?;
+    let mut gathered = Gathered {
+        first: None,
+        names: NameSet::new(alloc),
+        parts: Parted::new(alloc),
+    };
+    add_tops(alloc, levels, &mut gathered, rdf.children.as_slice())?;
+    let about = about_again(alloc, gathered.first)?;
+    Ok(Contents {
+        about,
+        parts: gathered.parts,
+    })
 }
 
 /// Whether the element is `rdf:RDF`.
@@ -204,17 +188,17 @@ pub fn root_contents<'p>(
     root: &Element<'p>,
 ) -> Result<Contents<'p>, RdfStop>
     requires { levels < 2 ^ 63 }
-    ensures { Gives result (read_root levels root.now) }
+    ensures { Gives told_of result (read_root levels root.now) }
 {
     if is_rdf_root(root) {
         return rdf_contents(alloc, levels, root);
     }
-    check(alloc, Role::Root, 0, root)?;
+    check(alloc, Role::Root, 0, &Formed::of(root))?;
     match first_element(root) {
         Some(rdf) => rdf_contents(alloc, levels, rdf),
         None => Ok(Contents {
             about: Text::raw(b"".as_slice()),
-            placed: Placed::new(alloc),
+            parts: Parted::new(alloc),
         }),
     }
 }

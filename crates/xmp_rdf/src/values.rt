@@ -35,9 +35,9 @@ pub fn by_attributes<'p>(alloc: Global, element: &Element<'p>) -> Result<Value<'
     let mut quals = lang_of(alloc, element)?;
     let members = own_members(alloc, element)?;
     let shape = if let Some(text) = rdf_value(b"value".as_slice(), element) {
-        Shape::Simple(text.again(alloc)?)
+        Shape::Simple(text.try_clone(alloc)?)
     } else if let Some(uri) = rdf_value(b"resource".as_slice(), element) {
-        Shape::Uri(uri.again(alloc)?)
+        Shape::Uri(uri.try_clone(alloc)?)
     } else {
         let shape = Shape::Struct(members);
         return Ok(Value { shape, quals });
@@ -77,7 +77,7 @@ fn value_of<'p>(member: Member<'p>) -> Value<'p>
     member.value
 }
 
-/// The value of `rdf:value` with the other members as qualifiers behind `xml:lang`.
+/// The value of `rdf:value` with the other members as qualifiers after `xml:lang`.
 fn qualified<'p>(
     lang: Members<'p>,
     types: Members<'p>,

@@ -7,14 +7,14 @@ ghost use Rattle.rdf_forms.specs.Visits.{member_depth};
 ghost use Rattle.rdf_forms.specs.Values.{plain, lang_of};
 ghost use Rattle.xmp_tree.specs.Parts.{value};
 ghost use Rattle.xmp_tree.specs.declared.nested.Shape.{Simple};
-ghost use Rattle.xmp_rdf.specs.Answering.{Gives};
+ghost use Rattle.xmp_values.specs.Stops.{place_of, Gives, Makes};
 ghost use Rattle.xmp_rdf.specs.Reading.{checked, read_within, read_form, read_members, read_items};
 
+use crate::RdfStop;
 use crate::members::{lang_of, node_members, plain, type_of};
-use crate::stops::RdfStop;
 use crate::texts::own_text;
 use crate::values::{by_attributes, by_members, kind_of};
-use rdf_forms::{Form, Holder, Role, broken, form_of, is_rdf, members_holder, node_holder};
+use rdf_forms::{Form, Formed, Holder, Role, broken, is_rdf, members_holder, node_holder};
 use std::alloc::Global;
 use xml_grammar::{Child, Element};
 use xmp_tree::{Items, Member, Members, Shape, Value};
@@ -22,11 +22,11 @@ use xmp_values::{Memory, Text};
 
 /// Ok where an element breaks no rule in its role.
 #[tactic(auto, unfolding(crate::specs::Reading::checked, rdf_forms::specs::Rules::broken))]
-pub fn check(alloc: Global, role: Role, depth: u64, element: &Element<'_>) -> Result<(), RdfStop>
-    ensures { Gives result (checked role depth element.now) }
+pub fn check(alloc: Global, role: Role, depth: u64, formed: &Formed<'_, '_>) -> Result<(), RdfStop>
+    ensures { Gives place_of result (checked role depth formed.now.element.now) }
 {
-    match broken(alloc, role, depth, element)? {
-        Some(rule) => Err(RdfStop::Fault(rule, element.at())),
+    match broken(alloc, role, depth, formed)? {
+        Some(rule) => Err(RdfStop::Fault(rule, formed.element.at())),
         None => Ok(()),
     }
 }
@@ -72,13 +72,14 @@ pub fn property<'p>(
     element: &Element<'p>,
 ) -> Result<Value<'p>, RdfStop>
     requires { depth + levels < 2 ^ 64 }
-    ensures { Gives result (read_within levels role depth element.now) }
+    ensures { Gives place_of result (read_within levels role depth element.now) }
 {
     if levels == 0 {
         return Ok(no_value(alloc));
     }
-    check(alloc, role, depth, element)?;
-    form_value(alloc, levels - 1, depth, element)
+    let formed = Formed::of(element);
+    check(alloc, role, depth, &formed)?;
+    form_value(alloc, levels - 1, depth, &formed)
 }
 
 /// The value of a property or item, by its form.
@@ -88,12 +89,13 @@ fn form_value<'p>(
     alloc: Global,
     levels: u64,
     depth: u64,
-    element: &Element<'p>,
+    formed: &Formed<'_, 'p>,
 ) -> Result<Value<'p>, RdfStop>
     requires { depth + 1 + levels < 2 ^ 64 }
-    ensures { Gives result (read_form levels depth element.now (form_of element.now)) }
+    ensures { let e = formed.now.element.now in Gives place_of result (read_form levels depth e (form_of e)) }
 {
-    match form_of(element) {
+    let element = formed.element;
+    match formed.form {
         Form::ByMembers => resource_value(alloc, levels, depth, element),
         Form::ByContainer(container) => container_value(alloc, levels, depth, element, container),
         Form::ByNode(node) => node_value(alloc, levels, depth, element, node),
@@ -112,12 +114,12 @@ fn resource_value<'p>(
     element: &Element<'p>,
 ) -> Result<Value<'p>, RdfStop>
     requires { depth + 1 + levels < 2 ^ 64 }
-    ensures { Gives result (read_form levels depth element.now ByMembers) }
+    ensures { Gives place_of result (read_form levels depth element.now ByMembers) }
 {
     let holder = members_holder(element);
-    let none = Members::new(alloc);
+    let mut members = Members::new(alloc);
     let children = element.children.as_slice();
-    let members = members_of(alloc, levels, holder, depth, none, children)?;
+    add_members(alloc, levels, holder, depth, &mut members, children)?;
     let lang = lang_of(alloc, element)?;
     Ok(by_members(lang, Members::new(alloc), members)?)
 }
@@ -132,13 +134,13 @@ fn node_value<'p>(
     node: &Element<'p>,
 ) -> Result<Value<'p>, RdfStop>
     requires { depth + 1 + levels < 2 ^ 64 }
-    ensures { Gives result (read_form levels depth element.now (ByNode node.now)) }
+    ensures { Gives place_of result (read_form levels depth element.now (ByNode node.now)) }
 {
-    check(alloc, Role::Node, depth, node)?;
+    check(alloc, Role::Node, depth, &Formed::of(node))?;
     let holder = node_holder(node);
-    let attributes = node_members(alloc, node)?;
+    let mut members = node_members(alloc, node)?;
     let children = node.children.as_slice();
-    let members = members_of(alloc, levels, holder, depth, attributes, children)?;
+    add_members(alloc, levels, holder, depth, &mut members, children)?;
     let lang = lang_of(alloc, element)?;
     let types = type_of(alloc, &node.name)?;
     Ok(by_members(lang, types, members)?)
@@ -154,95 +156,99 @@ fn container_value<'p>(
     container: &Element<'p>,
 ) -> Result<Value<'p>, RdfStop>
     requires { depth + 1 + levels < 2 ^ 64 }
-    ensures { Gives result (read_form levels depth element.now (ByContainer container.now)) }
+    ensures { Gives place_of result (read_form levels depth element.now (ByContainer container.now)) }
 {
-    check(alloc, Role::Container, depth, container)?;
-    let items = items_of(alloc, levels, depth, container.children.as_slice())?;
+    check(alloc, Role::Container, depth, &Formed::of(container))?;
+    let mut items = Items::new(alloc);
+    add_items(
+        alloc,
+        levels,
+        depth,
+        &mut items,
+        container.children.as_slice(),
+    )?;
     Ok(Value {
         shape: Shape::Array(kind_of(&container.name), items),
         quals: lang_of(alloc, element)?,
     })
 }
 
-/// The members inside an element, behind those before them.
+/// Adds the members inside an element.
 #[cycle(walk)]
-fn members_of<'p>(
+fn add_members<'p>(
     alloc: Global,
     levels: u64,
     holder: Holder,
     depth: u64,
-    before: Members<'p>,
+    members: &mut Members<'p>,
     children: &[Child<'p>],
-) -> Result<Members<'p>, RdfStop>
+) -> Result<(), RdfStop>
     requires { depth + 1 + levels < 2 ^ 64 }
-    ensures { Gives result (read_members levels holder depth before.entry (elements_in children.now)) }
+    ensures { Makes place_of result members.new (read_members levels holder depth members.old (elements_in children.now)) }
 {
-    let mut members = before;
     for child in children {
-        members = with_member(alloc, levels, holder, depth, members, child)?;
+        add_member(alloc, levels, holder, depth, members, child)?;
     }
-    Ok(members)
+    Ok(())
 }
 
-/// A child as a member, if it is an element, behind those before it.
+/// Adds a child as a member, if it is an element.
 #[cycle(walk)]
-fn with_member<'p>(
+fn add_member<'p>(
     alloc: Global,
     levels: u64,
     holder: Holder,
     depth: u64,
-    before: Members<'p>,
+    members: &mut Members<'p>,
     child: &Child<'p>,
-) -> Result<Members<'p>, RdfStop>
+) -> Result<(), RdfStop>
     requires { depth + 1 + levels < 2 ^ 64 }
-    ensures { Gives result (read_members levels holder depth before.entry (elements_in (child.now ∷ []))) }
+    ensures { Makes place_of result members.new (read_members levels holder depth members.old (elements_in (child.now ∷ []))) }
 {
     let Child::Element(element) = child else {
-        return Ok(before);
+        return Ok(());
     };
     let role = Role::Property(holder);
     let value = property(alloc, levels, role, member_depth(depth, element), element)?;
-    let name = element.name.again(alloc)?;
-    let mut members = before;
+    let name = element.name.try_clone(alloc)?;
     members.push(Member { name, value })?;
-    Ok(members)
+    Ok(())
 }
 
-/// The items inside a container.
+/// Adds the items inside a container.
 #[cycle(walk)]
-fn items_of<'p>(
+fn add_items<'p>(
     alloc: Global,
     levels: u64,
     depth: u64,
+    items: &mut Items<'p>,
     children: &[Child<'p>],
-) -> Result<Items<'p>, RdfStop>
+) -> Result<(), RdfStop>
     requires { depth + 1 + levels < 2 ^ 64 }
-    ensures { Gives result (read_items levels depth [] (elements_in children.now)) }
+    ensures { Makes place_of result items.new (read_items levels depth items.old (elements_in children.now)) }
 {
-    let mut items = Items::new(alloc);
     for child in children {
-        items = with_item(alloc, levels, depth, items, child)?;
+        add_item(alloc, levels, depth, items, child)?;
     }
-    Ok(items)
+    Ok(())
 }
 
-/// A child as an item, if it is an element, behind those before it.
+/// Adds a child as an item, if it is an element.
 #[cycle(walk)]
-fn with_item<'p>(
+fn add_item<'p>(
     alloc: Global,
     levels: u64,
     depth: u64,
-    before: Items<'p>,
+    items: &mut Items<'p>,
     child: &Child<'p>,
-) -> Result<Items<'p>, RdfStop>
+) -> Result<(), RdfStop>
     requires { depth + 1 + levels < 2 ^ 64 }
-    ensures { Gives result (read_items levels depth before.entry (elements_in (child.now ∷ []))) }
+    ensures { Makes place_of result items.new (read_items levels depth items.old (elements_in (child.now ∷ []))) }
 {
     let Child::Element(element) = child else {
-        return Ok(before);
+        return Ok(());
     };
     let value = property(alloc, levels, Role::Item, depth + 1, element)?;
-    let mut items = before;
     items.push(value)?;
-    Ok(items)
+    Ok(())
 }

@@ -1,15 +1,14 @@
 //! The declarations of a tag.
 
-ghost use Rattle.std.specs.Prelude.{◌≡◌, [], ◌∷◌, ◌++◌, length, IfOk, OnOk};
+ghost use Rattle.std.specs.Prelude.{◌≡◌, [], ◌∷◌, ◌++◌, length, IfOk};
 ghost use Rattle.std.specs.List.{list_any, filter_map};
 ghost use Rattle.xml_grammar.specs.Scopes.{is_reserved, is_misbound_to, is_misbound};
 ghost use Rattle.xml_grammar.specs.Trees.{hint_of};
 ghost use Rattle.xmp_xml.specs.Bounds.{bindings_in};
-ghost use Rattle.xmp_xml.specs.Building.{is_nil};
 
 use std::alloc::Global;
 use std::marker::Model;
-use xmp_values::{Bytes, Hint, Memory, Sequence, Text, is_xml_namespace, is_xmlns_namespace};
+use xmp_values::{Bytes, Hint, Memory, Sequence, Text, is_xml_space, is_xmlns_space};
 
 /// A prefix, or none for the default namespace, and what is bound to it.
 #[derive(Drop)]
@@ -48,17 +47,12 @@ impl<'p> Declared<'p> {
     }
 
     /// One declaration more, at the end.
-    pub fn push(&mut self, prefix: Option<Text<'p>>, space: Text<'p>) -> Result<(), Memory>
-        ensures { OnOk result (self.new ≡ self.old ++ record { prefix = prefix.entry; space = space.entry } ∷ []) }
+    pub fn with(self, prefix: Option<Text<'p>>, space: Text<'p>) -> Result<Declared<'p>, Memory>
+        ensures { IfOk result (λ d. d ≡ self.entry ++ record { prefix = prefix.entry; space = space.entry } ∷ []) }
     {
-        self.list.push(Bound { prefix, space })
-    }
-
-    #[tactic(auto, using(crate::proofs::Nests::nil_is))]
-    pub fn is_empty(&self) -> bool
-        ensures { result ≡ is_nil self.now }
-    {
-        self.list.len() == 0
+        let Declared { mut list } = self;
+        list.push(Bound { prefix, space })?;
+        Ok(Declared { list })
     }
 
     pub fn len(&self) -> usize
@@ -105,28 +99,33 @@ fn hints_in(alloc: Global, list: &[Bound<'_>]) -> Result<Sequence<Hint>, Memory>
 {
     let mut hints = Sequence::new(alloc);
     for bound in list {
-        add_hint(alloc, &mut hints, bound)?;
+        hints = with_hint(alloc, hints, bound)?;
     }
     Ok(hints)
 }
 
-fn add_hint(alloc: Global, hints: &mut Sequence<Hint>, bound: &Bound<'_>) -> Result<(), Memory>
-    ensures { OnOk result (hints.new ≡ hints.old ++ filter_map hint_of (bindings_in (bound.now ∷ []))) }
+fn with_hint(
+    alloc: Global,
+    hints: Sequence<Hint>,
+    bound: &Bound<'_>,
+) -> Result<Sequence<Hint>, Memory>
+    ensures { IfOk result (λ hs. hs ≡ hints ++ filter_map hint_of (bindings_in (bound.now ∷ []))) }
 {
+    let mut more = hints;
     if let Some(prefix) = &bound.prefix {
-        hints.push(Hint {
+        more.push(Hint {
             space: Bytes::from_slice(alloc, bound.space.bytes())?,
             prefix: Bytes::from_slice(alloc, prefix.bytes())?,
         })?;
     }
-    Ok(())
+    Ok(more)
 }
 
 /// A namespace that belongs to a prefix of its own.
 fn is_reserved(space: &[u8]) -> bool
     ensures { result ≡ is_reserved space.now }
 {
-    is_xml_namespace(space) || is_xmlns_namespace(space)
+    is_xml_space(space) || is_xmlns_space(space)
 }
 
 /// Whether a declaration isn't allowed.
@@ -139,7 +138,7 @@ fn is_misbound(prefix: &Option<Text<'_>>, space: &[u8]) -> bool
             if prefix.bytes() == b"xmlns".as_slice() {
                 true
             } else if prefix.bytes() == b"xml".as_slice() {
-                !is_xml_namespace(space)
+                !is_xml_space(space)
             } else {
                 is_reserved(space) || space == b"".as_slice()
             }

@@ -1,23 +1,24 @@
 //! The first declaration of each namespace.
 
-ghost use Rattle.std.specs.Prelude.{◌≡◌, ◌++◌, ◌∷◌, [], IfOk, OnOk, if◌then◌else◌};
+ghost use Rattle.std.specs.Prelude.{◌≡◌, ◌++◌, ◌∷◌, [], IfOk, if◌then◌else◌};
 ghost use Rattle.xml_grammar.specs.Trees.{first_hints};
 
 use std::alloc::Global;
 use xmp_values::{Hint, Memory, NameSet, Sequence};
 
-fn add_if(
+fn with_if(
     alloc: Global,
-    hints: &mut Sequence<Hint>,
+    hints: Sequence<Hint>,
     is_new: bool,
     hint: &Hint,
-) -> Result<(), Memory>
-    ensures { OnOk result (hints.new ≡ (if is_new then hints.old ++ hint.now ∷ [] else hints.old)) }
+) -> Result<Sequence<Hint>, Memory>
+    ensures { IfOk result (λ hs. hs ≡ (if is_new then hints ++ hint.now ∷ [] else hints)) }
 {
+    let mut more = hints;
     if is_new {
-        hints.push(hint.try_clone(alloc)?)?;
+        more.push(hint.again(alloc)?)?;
     }
-    Ok(())
+    Ok(more)
 }
 
 /// The first hint of each namespace, in their order. The time grows as n log n with their number.
@@ -29,7 +30,7 @@ pub fn first_hints(alloc: Global, all: &[Hint]) -> Result<Sequence<Hint>, Memory
     for hint in all {
         let space = hint.space.as_slice();
         let is_new = seen.insert(space, space)?;
-        add_if(alloc, &mut firsts, is_new, hint)?;
+        firsts = with_if(alloc, firsts, is_new, hint)?;
     }
     Ok(firsts)
 }

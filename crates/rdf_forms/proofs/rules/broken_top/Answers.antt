@@ -1,28 +1,34 @@
-use Rattle.std.proofs.Common.{◌≡◌, sym, subst, ◌∙◌, None}
+use Rattle.std.proofs.Common.{◌≡◌, sym, ap, subst, ◌∙◌, None}
 use Rattle.rdf_forms.specs.declared.roles.Role.TheVariants as roles
 use Rattle.rdf_forms.specs.NameRules.{name_rule}
 use Rattle.rdf_forms.specs.FormRules.{form_rule}
-use Rattle.rdf_forms.specs.MemberRules.{member_names}
+use Rattle.rdf_forms.specs.MemberRules.{member_names, twice_value}
 use Rattle.rdf_forms.specs.Entering.{Enters}
 use Rattle.rdf_forms.proofs.Tops.{by_value, by_clash, unbroken}
 use Rattle.rdf_forms.proofs.rules.broken_top.Goals as goal
 
 pub returns-then-twice_value : goal.returns-then-twice_value
 returns-then-twice_value c = λ names held.
-    let no_name : None ≡ name_rule roles.Top c.args.top.now c.args.first.now = cc in
-    let no_form : None ≡ form_rule roles.Top c.args.top.now = cc in
-    by_value c.args.top.now c.args.first.now names no_name no_form (sym c.twice_value.ensures ∙ c.if-twice_value.true)
+    let t = c.args.top.now in
+    let same = ap (twice_value roles.Top) (sym c.of-formed.ensures) in
+    let no_name : None ≡ name_rule roles.Top t c.args.first.now = cc in
+    let no_form : None ≡ form_rule roles.Top t = cc in
+    by_value t c.args.first.now names no_name no_form (same ∙ sym c.twice_value.ensures ∙ c.if-twice_value.true)
 
-pub returns-in-Some-2 : goal.returns-in-Some-2
-returns-in-Some-2 c = λ names held.
-    let no_name : None ≡ name_rule roles.Top c.args.top.now c.args.first.now = cc in
-    let no_form : None ≡ form_rule roles.Top c.args.top.now = cc in
-    unbroken c.args.top.now c.args.first.now names no_name no_form c.args.seen held (sym c.twice_value.ensures ∙ c.if-twice_value.false) c.in-Some-2.more
-    (subst (Enters c.args.seen (member_names c.args.top.now)) c.in-Some-2.is c.in_ok-more.ensures)
+pub returns-then-branch : goal.returns-then-branch
+returns-then-branch c = λ names held.
+    let t = c.args.top.now in
+    let same = ap (twice_value roles.Top) (sym c.of-formed.ensures) in
+    let no_name : None ≡ name_rule roles.Top t c.args.first.now = cc in
+    let no_form : None ≡ form_rule roles.Top t = cc in
+    unbroken t c.args.first.now names no_name no_form c.args.seen.now held (same ∙ sym c.twice_value.ensures ∙ c.if-twice_value.false) c.enter_top.new.seen
+    (subst (Enters c.args.seen.now (member_names t) c.enter_top.new.seen) c.if-branch.true c.in_ok-enter_top.ensures)
 
-pub returns-in-None : goal.returns-in-None
-returns-in-None c = λ names held.
-    let no_name : None ≡ name_rule roles.Top c.args.top.now c.args.first.now = cc in
-    let no_form : None ≡ form_rule roles.Top c.args.top.now = cc in
-    by_clash c.args.top.now c.args.first.now names no_name no_form c.args.seen held (sym c.twice_value.ensures ∙ c.if-twice_value.false)
-    (subst (Enters c.args.seen (member_names c.args.top.now)) c.in-None.is c.in_ok-more.ensures)
+pub returns-else-branch : goal.returns-else-branch
+returns-else-branch c = λ names held.
+    let t = c.args.top.now in
+    let same = ap (twice_value roles.Top) (sym c.of-formed.ensures) in
+    let no_name : None ≡ name_rule roles.Top t c.args.first.now = cc in
+    let no_form : None ≡ form_rule roles.Top t = cc in
+    by_clash t c.args.first.now names no_name no_form c.args.seen.now held (same ∙ sym c.twice_value.ensures ∙ c.if-twice_value.false)
+    (subst (Enters c.args.seen.now (member_names t) c.enter_top.new.seen) c.if-branch.false c.in_ok-enter_top.ensures)

@@ -12,7 +12,7 @@ loop-hint-preserved c =
     let hint = c.hint-item.result in
     let one = ap (λ (h : Hint). take at items ++ h ∷ []) c.hint-item.is ∙ sym (take_more items at hint c.loop-hint-test.true) in
     subst (HasSpaces c.insert.new.self) one
-    (spaces_more (take at items) hint c.as_slice.result c.loop-hint.spaces c.insert.new.self c.as_slice.ensures c.loop-hint.invariant c.in_ok-insert.ensures.updates)
+    (spaces_more (take at items) hint c.loop-hint.spaces c.insert.new.self c.as_slice.result.now c.as_slice.ensures c.loop-hint.invariant c.in_ok-insert.ensures.ok)
 
 pub returns : goal.returns
 returns c =

@@ -1,5 +1,0 @@
-pub mod Tiling
-pub mod Portions
-pub mod Heads
-pub mod Joined
-pub mod Written
