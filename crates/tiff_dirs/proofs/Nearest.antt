@@ -1,5 +1,5 @@
 -- The least of the ranges that meet another, gone over once.
-use Rattle.std.proofs.Common.{◌≡◌, ◌≢◌, Err, ℕ, suc, ◌+◌, ◌-◌, ◌<◌, ◌≤◌, ◌⊎◌, inl, inr, ◌==◌, nat_lt, nat_le, ◌&&◌, ◌||◌, Bool, true, false, if◌then◌else◌, List, [], ◌∷◌, ◌++◌, length, get_or, take, drop, refl, sym, ap, subst, ◌∙◌, arith, Some, None, append_assoc, All, Contains}
+use Rattle.std.proofs.Common.{◌≡◌, ◌≢◌, Err, ℕ, suc, ◌+◌, ◌-◌, ◌<◌, ◌≤◌, inl, inr, ◌==◌, Bool, true, false, if◌then◌else◌, List, [], ◌∷◌, ◌++◌, length, get_or, take, drop, refl, sym, ap, subst, ◌∙◌, arith, Some, None, append_assoc, All, Contains}
 use Rattle.std.specs.declared.option.Option.{Option}
 use Rattle.std.specs.List.{flat_map, slice_get}
 use Rattle.std.specs.Option.{option_map}
@@ -15,12 +15,13 @@ use Rattle.tiff_dirs.specs.declared.stop.TiffStop.{TiffStop}
 use Rattle.tiff_dirs.specs.declared.stop.TiffStop.TheVariants.{Fault, Memory}
 use Rattle.tiff_dirs.specs.Pictures.{first_of_tag}
 use Rattle.tiff_dirs.specs.Model.{Found}
-use Rattle.tiff_dirs.specs.Walking.{WalkAnswer}
+use Rattle.tiff_dirs.specs.Tables.{walk_stop}
+use Rattle.tiff_dirs.specs.FromDesk.{WalkFromAnswer}
 use Rattle.std.proofs.lemmas.List.Folds.{find_at}
 use Rattle.tiff_dirs.specs.Directories.{span}
 use Rattle.tiff_dirs.specs.Tiff.{Dir, Tiff, entries_in, first_entry}
-use Rattle.tiff_dirs.specs.Overlaps.{Meets, Before, apart_of, dir_span, named_in, place_of, without, others_in, others, own_of, own, Met, Clear, overlap, MeetsAt, Overlaps, NoOverlap}
-use Rattle.tiff_dirs.specs.Nearest.{meets, comes_before, lesser, closer, closest, Best, MeetingAnswer, OverlapAnswer}
+use Rattle.tiff_dirs.specs.Overlaps.{Meets, Before, apart_of, dir_span, named_in, place_of, without, others_in, others, own_of, own, Met, Clear, overlap, Overlaps, NoOverlap}
+use Rattle.tiff_dirs.specs.Nearest.{meets, comes_before, lesser, closer, closest, Best, MeetingAnswer}
 
 -- the tests are the relations
 met_true : (a b : FileSpan) → meets a b ≡ true → Meets a b
@@ -209,7 +210,7 @@ own_none l tag (d ∷ ds) h = absurd (omega arith)
 pub clear_none : (tag : ℕ) (tiff : Tiff) → own tag tiff ≡ None → Clear tag tiff
 clear_none tag tiff e = record { clear = λ value is. absurd (cc (e, is)) }
 
-pub overlapped_answer : (file : List ℕ) (tiff : Tiff) (stop : TiffStop) → Found file tiff → Overlaps tiff stop → WalkAnswer file (Err stop)
+pub overlapped_answer : (file : List ℕ) (tiff : Tiff) (stop : TiffStop) → Found file tiff → Overlaps tiff stop → WalkFromAnswer file (Err (walk_stop stop))
 overlapped_answer file tiff (Fault rule place x y) f o = inr (inr (record { tiff = tiff; found = f; overlaps = o }))
 overlapped_answer file tiff Memory f o = tt
 

@@ -1,5 +1,5 @@
 -- Going over ranges once for the first that meets another.
-use Rattle.std.specs.Prelude.{◌≡◌, ℕ, ◌==◌, nat_lt, nat_le, ◌&&◌, ◌||◌, Bool, if◌then◌else◌, List, [], ◌∷◌, All, Contains, Some, None}
+use Rattle.std.specs.Prelude.{ℕ, ◌==◌, nat_lt, nat_le, ◌&&◌, ◌||◌, Bool, if◌then◌else◌, List, [], ◌∷◌, All, Contains, Some, None}
 use Rattle.std.specs.declared.option.Option.{Option}
 use Rattle.xmp_base.specs.declared.file_span.FileSpan.{FileSpan}
 use Rattle.tiff_dirs.specs.declared.stop.TiffStop.{TiffStop}

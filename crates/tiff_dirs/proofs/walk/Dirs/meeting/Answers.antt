@@ -1,11 +1,9 @@
-use Rattle.std.proofs.Common.{◌≡◌, ◌+◌, ◌<◌, ◌∙◌, length, sym, subst, ap, refl, arith, Some, None}
-use Rattle.std.specs.List.{slice_get}
+use Rattle.std.proofs.Common.{◌≡◌, ◌∙◌, sym, subst, ap, arith, None}
 use Rattle.std.specs.declared.option.Option.{Option}
 use Rattle.std.specs.Option.{option_map}
 use Rattle.xmp_base.specs.declared.file_span.FileSpan.{FileSpan}
 use Rattle.tiff_dirs.specs.Directories.{span}
-use Rattle.tiff_dirs.specs.Tiff.{entries_in}
-use Rattle.tiff_dirs.specs.Overlaps.{place_of, others, own}
+use Rattle.tiff_dirs.specs.Overlaps.{others}
 use Rattle.tiff_dirs.specs.Nearest.{Best, MeetingAnswer, closest}
 use Rattle.tiff_dirs.proofs.Nearest.{own_none, own_stands, clear_none, whole, best_of, answer}
 use Rattle.tiff_dirs.proofs.walk.Dirs.meeting.Goals as goal
