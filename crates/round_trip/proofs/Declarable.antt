@@ -9,7 +9,7 @@ use Rattle.known_prefixes.specs.Prefixes.{begins_xml}
 use Rattle.xml_grammar.specs.Scopes.{xml_space, xmlns_space, is_misbound}
 use Rattle.xml_grammar.proofs.SoundPieces.{same_bytes}
 use Rattle.xmp_write.specs.PrefixLaws.{IsDeclared, AreDeclared}
-use Rattle.round_trip.specs.Packets.{bound_by, IsDeclarable, AreDeclarable}
+use Rattle.round_trip.proofs.Premises.{bound_by, IsDeclarable, AreDeclarable}
 
 pub bytes_differ : (a b : List ℕ) → a ≢ b → bytes_eq a b ≡ false
 bytes_differ a b apart = false_from_ne_true (bytes_eq a b) (λ is. apart (same_bytes a b is))

@@ -14,7 +14,7 @@ use Rattle.xml_grammar.specs.Spelling.{SpellsQName}
 use Rattle.xml_grammar.specs.Scopes.{Binding, bindings_of, plain_attributes, bound_to, is_misbound, same_qname}
 use Rattle.xml_grammar.specs.Nesting.{has_twice}
 use Rattle.xml_grammar.proofs.SoundPieces.{same_bytes, bytes_same}
-use Rattle.round_trip.specs.Packets.{bound_by, IsDeclarable, AreDeclarable}
+use Rattle.round_trip.proofs.Premises.{bound_by, IsDeclarable, AreDeclarable}
 use Rattle.xmp_write.specs.Text.{declared_text, top_text}
 use Rattle.xmp_write.specs.Prefixes.{prefix_in}
 use Rattle.std.proofs.Math.Utf8.{scalars}

@@ -1,9 +1,9 @@
--- A packet of a tree has a document, whose root is the writing of the tree.
-use Rattle.std.proofs.Common.{◌≡◌, ℕ, ◌+◌, Bool, true, false, ◌⊎◌, inl, inr, List, [], ◌∷◌, ◌++◌, length, refl, ap, sym, subst, ◌∙◌, append-nil, arith}
+-- The text and the packet of a tree have documents, whose roots are writings of the tree.
+use Rattle.std.proofs.Common.{◌≡◌, ℕ, ◌+◌, ◌-◌, ◌%◌, Bool, true, false, cond, ◌||◌, ◌⊎◌, inl, inr, List, [], ◌∷◌, ◌++◌, length, map, refl, ap, sym, subst, ◌∙◌, append_assoc, append-nil, arith}
 use Rattle.std.specs.Prelude.{IsTrue, codes, ◌==◌, chars, encode_utf8_all}
-use Rattle.std.specs.List.{list_all}
+use Rattle.std.specs.List.{list_all, range_with_len}
 use lib.Utf8.{encode}
-use Rattle.std.proofs.lemmas.Bool.{and_parts, or_cases, eqb-true}
+use Rattle.std.proofs.lemmas.Bool.{and_parts, and_from, or_cases, eqb-true}
 use Rattle.std.proofs.lemmas.Str.{chars-encodes, char_from_byte}
 use Rattle.xmp_values.specs.Characters.{is_char, is_blank}
 use Rattle.xmp_values.specs.declared.hints.Hint.{Hint}
@@ -13,11 +13,21 @@ use Rattle.xml_grammar.specs.Pieces.{Character}
 use Rattle.xml_grammar.specs.Nesting.{Nest, start, broken}
 use Rattle.xml_grammar.specs.Trees.{events, events_of, hints_of}
 use Rattle.xml_grammar.specs.Documents.{mark_width, behind_mark, Reads, IsDocument}
-use Rattle.round_trip.specs.Packets.{is_pad, header_chars, packet_of, PacketDocument}
-use Rattle.xmp_write.specs.Text.{tree_text}
+use Rattle.round_trip.proofs.Packets.{is_pad, header_chars}
+use Rattle.xmp_tree.specs.Parts.{Parts}
+use Rattle.xmp_write.specs.declared.forms.Form.{Form}
+use Rattle.xmp_write.specs.Prefixes.{prefixes}
+use Rattle.xmp_write.specs.PrefixLaws.{PrefixLaw}
+use Rattle.xmp_write.specs.Text.{tree_text, written_text, canonical_text}
+use Rattle.xmp_write.specs.Written.{written_members}
+use Rattle.xmp_write.specs.WrittenPackets.{pad, pad_byte, trailer, least_len, packet, canonical_packet}
+use Rattle.xmp_write.proofs.PrefixLaws.{prefix_law}
+use Rattle.round_trip.specs.Law.{MayWrite, HasWriting, WrittenDocuments}
+use Rattle.round_trip.proofs.Declarable.{are_declarable}
+use Rattle.round_trip.proofs.WrittenMembers.{written_properties}
 use Rattle.round_trip.proofs.Spelt.{IsSpelt, Anything, spelt_then, spelt_none, spelt_one}
 use Rattle.round_trip.proofs.Frames.{outside}
-use Rattle.round_trip.proofs.Texts.{tree_made}
+use Rattle.round_trip.proofs.Texts.{MadeTree, tree_made}
 use Rattle.round_trip.proofs.Packets.{header_spelt, trailer_spelt}
 
 abbrev pub around_root : Bool → Nest
@@ -29,6 +39,18 @@ pad_one rooted at c (inl is) = subst (λ (c : ℕ). IsSpelt Anything (around_roo
     (spelt_one (around_root rooted) at (Character 0x20) (codes " ") (λ es. es) (λ left. record { spelled = (refl, λ e. omega arith, λ e. omega arith, λ e. omega arith, refl); fits = λ mode is. absurd (omega arith) }) refl refl (λ more. refl))
 pad_one rooted at c (inr is) = subst (λ (c : ℕ). IsSpelt Anything (around_root rooted) at (c ∷ []) (λ es. es) (around_root rooted)) (sym is)
     (spelt_one (around_root rooted) at (Character 0xA) (codes "\n") (λ es. es) (λ left. record { spelled = (refl, λ e. omega arith, λ e. omega arith, λ e. omega arith, refl); fits = λ mode is. absurd (omega arith) }) refl refl (λ more. refl))
+
+each_pads : (many : ℕ) (is : List ℕ) → list_all is_pad (map (pad_byte many) is) ≡ true
+each_pads many [] = refl
+each_pads many (i ∷ is) = and_from (is_pad (pad_byte many i)) (list_all is_pad (map (pad_byte many) is)) (one (((i + 1) % 100 == 0) || (i + 1 == many))) (each_pads many is)
+  where
+    one : (b : Bool) → is_pad (cond b 0xA 0x20) ≡ true
+    one true = refl
+    one false = refl
+
+-- a line feed and padding
+pad_pads : (many : ℕ) → list_all is_pad (codes "\n" ++ pad many) ≡ true
+pad_pads many = each_pads many (range_with_len 0 many)
 
 pub pad_spelt : (rooted : Bool) (at : ℕ) (cs : List ℕ) → IsTrue (list_all is_pad cs) → IsSpelt Anything (around_root rooted) at cs (λ es. es) (around_root rooted)
 pad_spelt rooted at [] h = spelt_none (around_root rooted) at
@@ -69,18 +91,53 @@ document_of text rest root first h =
       },
     )
 
-pub packet_document : PacketDocument
-unfolding encode
-packet_document ps about props pad text h each padded =
-    let a : List ℕ = encode_utf8_all header_chars in
-    let m = tree_made ps about props (0 + length a + length (codes "\n")) text h each in
-    let b : List ℕ = tree_text ps about props in
-    let c : List ℕ = codes "<?xpacket end=\"w\"?>" in
-    let on : ℕ = 0 + length a + length (codes "\n") + length b in
-    let end = spelt_then Anything Anything (around_root true) (around_root true) (around_root true) on pad c (λ es. es) (λ es. es) (pad_spelt true on pad padded) (trailer_spelt (on + length pad)) (λ left any. tt) in
-    let back = spelt_then Anything Anything outside (around_root true) (around_root true) (0 + length a + length (codes "\n")) b (pad ++ c) (λ es. events (child.Element m.root) ++ es) (λ es. es) m.spelt end (λ left any. tt) in
-    let line = spelt_then Anything Anything outside outside (around_root true) (0 + length a) (codes "\n") (b ++ (pad ++ c)) (λ es. es) (λ es. events (child.Element m.root) ++ es)
-    (pad_spelt false (0 + length a) (codes "\n") refl) back (λ left any. tt) in
-    let all = spelt_then Anything Anything start outside (around_root true) 0 a (codes "\n" ++ (b ++ (pad ++ c))) (λ es. es) (λ es. events (child.Element m.root) ++ es) (header_spelt 0) line (λ left any. tt) in
-    let d = document_of (packet_of ps about props pad) _ m.root refl all in
-    (m.root, m.is, d.0, d.1)
+-- ---- the text and the packet of a form
+
+module _ (t : Parts) (hints : List Hint) (form : Form) (may : MayWrite t hints form) where
+  abbrev ps : List Hint
+  ps = prefixes t hints form
+
+  law : PrefixLaw t hints form
+  law = prefix_law t hints form may.formed may.valid may.few
+
+  abbrev text : List ℕ
+  text = tree_text ps t.about (written_members t form)
+
+  made : (first : Bool) (at : ℕ) → MadeTree ps t.about (written_members t form) first at
+  made first at = tree_made ps t.about (written_members t form) first at may.formed.about (are_declarable ps law.declared) (written_properties ps t form may.formed may.noted law.bound)
+
+  text_document : HasWriting (canonical_text t hints form) t form
+  unfolding written_text
+  text_document =
+      let m = made true 0 in
+      let all = spelt_then Anything Anything start (around_root true) (around_root true) 0 text (codes "\n") (λ es. events (child.Element m.root) ++ es) (λ es. es)
+      m.spelt (pad_spelt true (0 + length text) (codes "\n") refl) (λ left any. tt) in
+      let d = document_of (canonical_text t hints form) _ m.root refl all in
+      (m.root, m.is, d.0, d.1)
+
+  packet_parts : (len : ℕ) → canonical_packet t hints form len
+      ≡ encode_utf8_all header_chars ++ (codes "\n" ++ (text ++ ((codes "\n" ++ pad (len - least_len ps t form)) ++ trailer)))
+  unfolding encode packet written_text
+  packet_parts len = regroup (encode_utf8_all header_chars) (codes "\n") text (pad (len - least_len ps t form)) trailer
+    where
+      regroup : (a l t p e : List ℕ) → (((a ++ l) ++ (t ++ l)) ++ p) ++ e ≡ a ++ (l ++ (t ++ ((l ++ p) ++ e)))
+      regroup a l t p e = simp append_assoc
+
+  packet_document : (len : ℕ) → HasWriting (canonical_packet t hints form len) t form
+  unfolding encode
+  packet_document len =
+      let a : List ℕ = encode_utf8_all header_chars in
+      let p : List ℕ = codes "\n" ++ pad (len - least_len ps t form) in
+      let m = made false (0 + length a + length (codes "\n")) in
+      let on : ℕ = 0 + length a + length (codes "\n") + length text in
+      let end = spelt_then Anything Anything (around_root true) (around_root true) (around_root true) on p trailer (λ es. es) (λ es. es)
+      (pad_spelt true on p (pad_pads (len - least_len ps t form))) (trailer_spelt (on + length p)) (λ left any. tt) in
+      let back = spelt_then Anything Anything outside (around_root true) (around_root true) (0 + length a + length (codes "\n")) text (p ++ trailer) (λ es. events (child.Element m.root) ++ es) (λ es. es) m.spelt end (λ left any. tt) in
+      let line = spelt_then Anything Anything outside outside (around_root true) (0 + length a) (codes "\n") (text ++ (p ++ trailer)) (λ es. es) (λ es. events (child.Element m.root) ++ es)
+      (pad_spelt false (0 + length a) (codes "\n") refl) back (λ left any. tt) in
+      let all = spelt_then Anything Anything start outside (around_root true) 0 a (codes "\n" ++ (text ++ (p ++ trailer))) (λ es. es) (λ es. events (child.Element m.root) ++ es) (header_spelt 0) line (λ left any. tt) in
+      let d = document_of (a ++ (codes "\n" ++ (text ++ (p ++ trailer)))) _ m.root refl all in
+      (m.root, m.is, d.0, subst (λ (x : List ℕ). IsDocument x m.root d.0) (sym (packet_parts len)) d.1)
+
+pub written_documents : WrittenDocuments
+written_documents t hints form may = (text_document t hints form may, packet_document t hints form may)

@@ -1,5 +1,5 @@
 -- The fixed lines of a text: the elements around the properties.
-use Rattle.std.proofs.Common.{◌≡◌, ℕ, ◌+◌, false, ◌||◌, ◌⊎◌, inl, inr, List, [], ◌∷◌, ◌++◌, length, map, Option, Some, None, refl, ap, sym, subst, ◌∙◌, append-nil, arith, true}
+use Rattle.std.proofs.Common.{◌≡◌, ℕ, ◌+◌, Bool, false, ◌||◌, ◌⊎◌, inl, inr, List, [], ◌∷◌, ◌++◌, length, map, Option, Some, None, refl, ap, sym, subst, ◌∙◌, append-nil, arith, true}
 use Rattle.std.specs.Prelude.{codes, is_none, encode_utf8_all, unwrap_or}
 use Rattle.std.specs.List.{list_any}
 use lib.Utf8.{encode}
@@ -20,7 +20,7 @@ use Rattle.xml_grammar.specs.Nesting.{Level, Nest, start, bound_at, has_twice, m
 use Rattle.xml_grammar.specs.Trees.{Event, Opens, Closes, put, events_of}
 use Rattle.xmp_tree.specs.Wf.{lang_name, type_name}
 use Rattle.rdf_forms.specs.Words.{rdf, rdf_space, xml_space}
-use Rattle.round_trip.specs.Packets.{bound_by, AreDeclarable, IsWritable}
+use Rattle.round_trip.proofs.Premises.{bound_by, AreDeclarable, IsWritable}
 use Rattle.xmp_write.specs.Text.{top_text, open_meta, open_rdf}
 use Rattle.xmp_write.specs.Prefixes.{prefix_in, spelled}
 use Rattle.round_trip.proofs.Spelt.{inside, IsSpelt, Anything, spelt_then, spelt_one}
@@ -49,8 +49,12 @@ meta_q = record { prefix = Some (codes "x"); local = codes "xmpmeta" }
 abbrev pub meta_tag : Tag
 meta_tag = record { name = meta_q; attributes = record { name = record { prefix = Some (codes "xmlns"); local = codes "x" }; value = codes "adobe:ns:meta/" } ∷ []; empty = false }
 
+-- before the root, where nothing was read yet or something was
+abbrev pub before_root : Bool → Nest
+before_root first = record { first = first; levels = []; rooted = false }
+
 abbrev pub outside : Nest
-outside = record { first = false; levels = []; rooted = false }
+outside = before_root false
 
 abbrev pub meta_level : Level
 meta_level = record { name = meta_q; bound = bound_at start meta_tag }
@@ -202,9 +206,12 @@ rdf_spelled = (
   refl,
 )
 
-pub meta_start : (at : ℕ) → IsSpelt Anything outside at open_meta (λ es. Opens at (record { space = meta_space; local = codes "xmpmeta" }) [] ∷ es) (inside (meta_level ∷ []))
+pub meta_start : (first : Bool) (at : ℕ) → IsSpelt Anything (before_root first) at open_meta (λ es. Opens at (record { space = meta_space; local = codes "xmpmeta" }) [] ∷ es) (inside (meta_level ∷ []))
 unfolding encode broken xml_space xmlns_space meta_space
-meta_start at =
+meta_start true at =
+    spelt_one start at (Start meta_tag) open_meta (λ es. Opens at (record { space = meta_space; local = codes "xmpmeta" }) [] ∷ es)
+    (λ left. record { spelled = meta_spelled; fits = tt }) refl refl (λ more. refl)
+meta_start false at =
     spelt_one outside at (Start meta_tag) open_meta (λ es. Opens at (record { space = meta_space; local = codes "xmpmeta" }) [] ∷ es)
     (λ left. record { spelled = meta_spelled; fits = tt }) refl refl (λ more. refl)
 

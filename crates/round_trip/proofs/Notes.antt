@@ -73,7 +73,7 @@ capitals_digits bs h =
     (list_all-from_AllPass is_digit bs (λ k d within. (one_capital _ (h.1 k d within)).digit)))
     ∙ ap (λ (x : List ℕ). Some x) (capitals_same bs h.1)
 
-capitals_text : (bs : List ℕ) → AreCapitals bs → IsCharText bs
+pub capitals_text : (bs : List ℕ) → AreCapitals bs → IsCharText bs
 capitals_text bs h =
     (bs, sym (encodes-IsAscii bs (IsAscii-from_all bs (λ k d within. (one_capital _ (h.1 k d within)).low))), λ k d within. (one_capital _ (h.1 k d within)).char)
 
@@ -86,15 +86,15 @@ empty_wf : Wf empty
 unfolding empty
 empty_wf = record { about = ([], refl, All-nil (λ c. is_char c ≡ true)); props = formed_none 24; note = All-nil (λ m. name_of m ≢ note_name) }
 
-note_space : IsOwnSpace note_name.space × IsCharText note_name.space
+pub note_space : IsOwnSpace note_name.space × IsCharText note_name.space
 unfolding empty note_name rdf_space xml_space meta_space
 note_space = All-head IsOwned note_name.space [] (written_owned empty (record { first = 0; count = 0; note = Some [] }) empty_wf) refl
 
-note_named : IsNamed note_name
+pub note_named : IsNamed note_name
 unfolding note_name encode is_name_start is_name_char
 note_named = record { chars = note_space.1; local = (codes "HasExtendedXMP", refl, refl) }
 
-abbrev note_member : List ℕ → Member
+abbrev pub note_member : List ℕ → Member
 note_member digits = member note_name (simple digits)
 
 -- well-formed members behind the note are well-formed with it

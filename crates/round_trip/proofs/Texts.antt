@@ -1,5 +1,5 @@
 -- The text of a tree is spelled by pieces whose root is the writing of the tree.
-use Rattle.std.proofs.Common.{◌≡◌, ℕ, ◌+◌, ◌≤◌, true, List, [], ◌∷◌, ◌++◌, length, map, refl, ap, sym, subst, ◌∙◌, append_assoc, append-nil, arith}
+use Rattle.std.proofs.Common.{◌≡◌, ℕ, ◌+◌, ◌≤◌, Bool, true, List, [], ◌∷◌, ◌++◌, length, map, refl, ap, sym, subst, ◌∙◌, append_assoc, append-nil, arith}
 use Rattle.std.specs.Prelude.{All, codes}
 use Rattle.std.specs.List.{list_all, flat_map, cons_option}
 use Rattle.std.proofs.lemmas.List.Elements.{All-head, All-tail}
@@ -12,20 +12,19 @@ use Rattle.xml_grammar.specs.declared.elements.Child.TheVariants as child
 use Rattle.xml_grammar.specs.declared.elements.Child.TheViews as views
 use Rattle.xml_grammar.specs.declared.elements.Element.{Element}
 use Rattle.xml_grammar.specs.Nesting.{Level}
-use Rattle.xml_grammar.specs.Trees.{Event, Opens, Words, Closes, joined, put, events, events_of}
-use Rattle.xml_grammar.specs.Documents.{Reads, nest_after}
+use Rattle.xml_grammar.specs.Trees.{Event, Opens, Words, Closes, joined, put, events}
 use Rattle.xml_grammar.proofs.TreeEvents.{element, element_is, text_is}
 use Rattle.xmp_tree.specs.declared.nested.Member.{Member, Member'}
 use Rattle.rdf_forms.specs.Words.{rdf}
 use Rattle.rdf_forms.specs.Parts.{element_in, elements_in, elements_of, text_in, text_at, own_text}
-use Rattle.round_trip.specs.Packets.{AreDeclarable, IsWritable, IsProperty}
+use Rattle.round_trip.proofs.Premises.{AreDeclarable, IsWritable, IsProperty}
 use Rattle.xmp_write.specs.Text.{member_text, lines_text, tree_text, open_meta, open_rdf, top_text}
 use Rattle.xmp_write.specs.Prefixes.{spelled}
 use Rattle.round_trip.specs.Elements.{IsElement, AreProperties, IsTree}
 use Rattle.round_trip.proofs.Spelt.{inside, IsSpelt, Anything, spelt_then, spelt_none}
 use Rattle.round_trip.proofs.Built.{spelt_same}
 use Rattle.round_trip.proofs.Writing.{IsScope, value_made}
-use Rattle.round_trip.proofs.Frames.{line_spelt, outside, meta_level, rdf_level, top_level, top_scope, meta_start, rdf_start, top_start, about_attribute, meta_end, rdf_end, top_end, frame, lined_between}
+use Rattle.round_trip.proofs.Frames.{line_spelt, before_root, meta_level, rdf_level, top_level, top_scope, meta_start, rdf_start, top_start, about_attribute, meta_end, rdf_end, top_end, frame, lined_between}
 
 -- ---- properties on lines
 
@@ -145,13 +144,13 @@ around_is at name inner = record { named = refl; attributed = refl; worded = aro
 
 -- ---- the whole
 
-pub record MadeTree (ps : List Hint) (about : List ℕ) (props : List Member) (at : ℕ) : Type 0 where
+pub record MadeTree (ps : List Hint) (about : List ℕ) (props : List Member) (first : Bool) (at : ℕ) : Type 0 where
   pub root : Element
   pub is : IsTree root about props
-  pub spelt : IsSpelt Anything outside at (tree_text ps about props) (λ es. events (child.Element root) ++ es) (inside [])
+  pub spelt : IsSpelt Anything (before_root first) at (tree_text ps about props) (λ es. events (child.Element root) ++ es) (inside [])
 
-pub tree_made : (ps : List Hint) (about : List ℕ) (props : List Member) (at : ℕ) → IsCharText about → AreDeclarable ps → All (IsProperty ps) props → MadeTree ps about props at
-tree_made ps about props at text h each =
+pub tree_made : (ps : List Hint) (about : List ℕ) (props : List Member) (before : Bool) (at : ℕ) → IsCharText about → AreDeclarable ps → All (IsProperty ps) props → MadeTree ps about props before at
+tree_made ps about props before at text h each =
     let t : Level = top_level about ps in
     let d : List ℕ = codes "<rdf:Description" ++ top_text about ps ++ codes ">" in
     let first : ℕ = at + length open_meta + length (codes "\n") in
@@ -173,10 +172,10 @@ tree_made ps about props at text h each =
     (λ x. Opens second (rdf (codes "Description")) (about_attribute about ∷ []) ∷ put (codes "\n") (lines es (Closes ∷ x))) topped)
     (rdf_end (meta_level ∷ []) (first + length open_rdf + length (codes "\n" ++ ((d ++ ((codes "\n" ++ lines_text ps props) ++ codes "</rdf:Description>")) ++ codes "\n")))) in
     let r : List ℕ = open_rdf ++ ((codes "\n" ++ ((d ++ ((codes "\n" ++ lines_text ps props) ++ codes "</rdf:Description>")) ++ codes "\n")) ++ codes "</rdf:RDF>") in
-    let whole = frame outside meta_level [] at open_meta (codes "\n" ++ (r ++ codes "\n")) (codes "</x:xmpmeta>")
+    let whole = frame (before_root before) meta_level [] at open_meta (codes "\n" ++ (r ++ codes "\n")) (codes "</x:xmpmeta>")
     (Opens at (record { space = meta_space; local = codes "xmpmeta" }) [])
     (λ x. put (codes "\n") (Opens first (rdf (codes "RDF")) [] ∷ put (codes "\n") (Opens second (rdf (codes "Description")) (about_attribute about ∷ []) ∷ put (codes "\n") (lines es (Closes ∷ put (codes "\n") (Closes ∷ put (codes "\n") x))))))
-    (meta_start at)
+    (meta_start before at)
     (lined_between meta_level [] (at + length open_meta) r
     (λ x. Opens first (rdf (codes "RDF")) [] ∷ put (codes "\n") (Opens second (rdf (codes "Description")) (about_attribute about ∷ []) ∷ put (codes "\n") (lines es (Closes ∷ put (codes "\n") (Closes ∷ x))))) described)
     (meta_end [] (at + length open_meta + length (codes "\n" ++ (r ++ codes "\n")))) in
@@ -197,7 +196,7 @@ tree_made ps about props at text h each =
         blank = top_blank second about es;
         listed = subst (λ (x : List Element). AreProperties x props) (sym (top_elements second about es)) body.are;
       };
-      spelt = spelt_same Anything outside (inside []) at (tree_text ps about props)
+      spelt = spelt_same Anything (before_root before) (inside []) at (tree_text ps about props)
           (λ x. Opens at (record { space = meta_space; local = codes "xmpmeta" }) [] ∷ put (codes "\n") (Opens first (rdf (codes "RDF")) [] ∷ put (codes "\n") (Opens second (rdf (codes "Description")) (about_attribute about ∷ []) ∷ put (codes "\n") (lines es (Closes ∷ put (codes "\n") (Closes ∷ put (codes "\n") (Closes ∷ x)))))))
           (λ x. events (child.Element root) ++ x)
           (λ x.
@@ -207,8 +206,3 @@ tree_made ps about props at text h each =
           ∙ around_events at (record { space = meta_space; local = codes "xmpmeta" }) inner x)
           whole;
     }
-
--- As characters it is read from its start to its end; nothing is left open, and the root stands.
-pub tree_reads : (ps : List Hint) (about : List ℕ) (props : List Member) (at : ℕ) (h : MadeTree ps about props at)
-    → Reads outside at h.spelt.pieces (h.spelt.chars ++ []) [] × (nest_after outside h.spelt.pieces ≡ inside []) × (events_of outside (h.spelt.pieces ++ []) ≡ events (child.Element h.root) ++ [])
-tree_reads ps about props at h = (h.spelt.read [] tt, h.spelt.ends, h.spelt.means [])

@@ -19,17 +19,17 @@ use Rattle.xmp_write.specs.Prefixes.{prefix_in}
 use Rattle.xmp_write.specs.PrefixLaws.{AreBound}
 use Rattle.rdf_forms.specs.Words.{same_name}
 use Rattle.rdf_soundness.proofs.Words.{same_name_is}
-use Rattle.round_trip.specs.Naming.{HasNames, ShapeNames, MemberNames, MembersNames, ItemsNames}
-use Rattle.round_trip.specs.Packets.{IsWritable, IsProperty}
+use Rattle.round_trip.proofs.Naming.{HasNames, ShapeNames, MemberNames, MembersNames, ItemsNames}
+use Rattle.round_trip.proofs.Premises.{IsWritable, IsProperty}
 use Rattle.round_trip.proofs.Declarable.{bytes_differ}
 use Rattle.round_trip.proofs.Values.{name_row}
 
 -- a namespace is fixed or has a prefix
-abbrev IsBound : List Hint → List ℕ → Type 0
+abbrev pub IsBound : List Hint → List ℕ → Type 0
 IsBound ps space = is_fixed space ≡ false → (prefix : List ℕ) × (prefix_in ps space ≡ Some prefix)
 
 -- the two parts of a list
-all_parts : {X : Type 0} (P : X → Type 0) (xs ys : List X) → All P (xs ++ ys) → All P xs × All P ys
+pub all_parts : {X : Type 0} (P : X → Type 0) (xs ys : List X) → All P (xs ++ ys) → All P xs × All P ys
 all_parts P [] ys h = (All-nil P, h)
 all_parts P (x ∷ xs) ys h = let rest = all_parts P xs ys (All-tail P x (xs ++ ys) h) in (All-cons P x xs (All-head P x (xs ++ ys) h) rest.0, rest.1)
 
@@ -49,7 +49,7 @@ qualifier_name m q = by (same_name (name_of m) lang_name) (same_name (name_of m)
     by false false is that = inr (inr (q.own (apart lang_name is) (apart type_name that)))
 
 module _ (ps : List Hint) where
-  own_writable : (name : Name) → IsName name.local → IsOwnSpace name.space → IsBound ps name.space → IsWritable ps name
+  pub own_writable : (name : Name) → IsName name.local → IsOwnSpace name.space → IsBound ps name.space → IsWritable ps name
   own_writable name local own bound = (local, by (bytes_eq name.space meta_space) refl)
     where
       by : (b : Bool) → bytes_eq name.space meta_space ≡ b

@@ -25,7 +25,7 @@ use Rattle.rdf_forms.specs.Parts.{elements_of}
 use Rattle.xmp_write.specs.Text.{is_tag, simple_in, tag_in, lang_in, has_others, lang_text, parse_text, text_escaped, element_text, kind_name, value_text, shape_text, members_text, others_text, items_text}
 use Rattle.xmp_write.specs.Prefixes.{spelled}
 use Rattle.round_trip.specs.Elements.{IsMarked, Plain, Parsed, Resource, kind_local, Chosen, Begun, IsWritten, IsShape, AreMembers, AreOthers, AreItems}
-use Rattle.round_trip.specs.Naming.{HasNames, ShapeNames, MembersNames, ItemsNames}
+use Rattle.round_trip.proofs.Naming.{HasNames, ShapeNames, MembersNames, ItemsNames}
 use Rattle.round_trip.proofs.Rolled.{Length, count}
 use Rattle.round_trip.proofs.Marked.{row}
 use Rattle.round_trip.proofs.Spelt.{inside, IsSpelt, Anything, Tagged, spelt_then, spelt_none, text_spelt}

@@ -1,4 +1,2 @@
 pub mod Elements
 pub mod Law
-pub mod Naming
-pub mod Packets

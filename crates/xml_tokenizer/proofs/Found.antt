@@ -1,12 +1,12 @@
 -- Looking for a word: the first place of its bytes is the first place of its characters.
 use Rattle.std.proofs.Common.{◌≡◌, ◌≢◌, ℕ, ◌+◌, ◌<◌, ◌≤◌, Bool, true, false, cond, eqb, ltb, List, [], ◌∷◌, ◌++◌, length, take, drop, Option, Some, None, refl, sym, ap, subst, ◌∙◌, append_assoc, length-append, length-take-le, take-append-drop, arith}
-use Rattle.std.specs.Prelude.{encode_utf8, encode_utf8_all}
+use Rattle.std.specs.Prelude.{encode_utf8, encode_utf8_all, codes, is_some}
 use Rattle.std.specs.List.{list_all, slice_index}
 use Rattle.std.specs.Str.{chars, IsUtf8, IsCharBoundary}
 use Rattle.std.proofs.lemmas.Bool.{false≢true, eqb-true, eq-eqb, ltb-true, ltb-false}
 use Rattle.std.proofs.lemmas.List.{take_at, drop_at, nil_from_length}
 use Rattle.std.proofs.lemmas.Str.{chars-nil, chars-append, encodes-append, encodes-chars, encodes-IsAscii, length-le-encodes, IsUtf8-take, IsUtf8-drop}
-use Rattle.memchr.specs.Find.{FindsNeedle, OccursAt, Nowhere, NoneBefore}
+use Rattle.memchr.specs.Find.{FindsNeedle, IsFirstByte, OccursAt, Nowhere, NoneBefore, is_byte}
 use Rattle.memchr.proofs.lemmas.MatchLemmas.{OccursAt-from_part, OccursAt-split}
 use Rattle.xml_grammar.specs.Spelling.{AreChars}
 use Rattle.xml_grammar.proofs.Splits.{both, all_cons, head_same, tail_same}
@@ -49,6 +49,16 @@ pub sought_nowhere : (word text : List ℕ) → IsUtf8 text → is_ascii word �
 sought_nowhere word text u ascii some h = none_by (up_to word (chars text)) (λ x e.
     let r = read_of word text x u ascii some e in
     h (length (encode_utf8_all x.0)) (omega arith) (omega (arith, r.occurs.fits)) r.occurs)
+
+-- a text without `]` has no `]]>`
+pub no_bracket : (text : List ℕ) (r : Option ℕ) → IsUtf8 text → IsFirstByte (is_byte 0x5D) text r → is_some r ≡ false → up_to (codes "]]>") (chars text) ≡ None
+no_bracket text None u h e = sought_nowhere (codes "]]>") text u refl (omega arith) (λ k low high occurs. h k (omega arith) (omega (arith, occurs.fits)) (first k occurs))
+  where
+    first : (k : ℕ) → OccursAt text (codes "]]>") k → eqb (slice_index text k) 0x5D ≡ true
+    first k occurs =
+        let here : k ≡ k + 0 = omega arith in
+        eq-eqb (slice_index text k) 0x5D (ap (slice_index text) here ∙ occurs.reads 0 (omega arith))
+no_bracket text (Some at) u h e = absurd cc
 
 -- a front that is no longer in bytes is a front of it
 front_of_front : (a b c d : List ℕ) → c ++ d ≡ a ++ b → length (encode_utf8_all c) ≤ length (encode_utf8_all a) → AreChars a → AreChars c

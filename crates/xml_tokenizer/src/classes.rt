@@ -49,6 +49,7 @@ pub fn is_value_byte(byte: u8) -> bool
     byte >= 0x20 && byte != 0xEF && byte != b'<' && byte != b'&'
 }
 
+#[inline(always)]
 pub fn has(class: Class, c: char) -> bool
     ensures { result ≡ has class c }
 {
@@ -75,6 +76,7 @@ fn is_wide(class: Class) -> bool
 
 /// Whether a byte, wherever it stands in UTF-8, is of a character of the class.
 #[tactic(auto, unfolding(crate::specs::Classes::is_sure))]
+#[inline(always)]
 pub fn is_sure(class: Class, byte: u8) -> bool
     ensures { result ≡ is_sure class byte }
 {

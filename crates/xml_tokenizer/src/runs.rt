@@ -31,6 +31,7 @@ pub fn width_of(text: &str) -> usize
 }
 
 /// How many bytes at the front tell by themselves that their characters are of the class.
+#[inline(always)]
 fn sure_len(class: Class, bytes: &[u8]) -> usize
     ensures run { result ≡ prefix_len (classes.is_sure class) bytes.now }
     ensures within { result ≤ length bytes.now }
@@ -42,6 +43,7 @@ fn sure_len(class: Class, bytes: &[u8]) -> usize
 }
 
 /// The text after those bytes.
+#[inline(always)]
 fn past_sure(class: Class, text: &str) -> &str
     ensures { Passes (classes.has class) text.now result.now }
 {
@@ -50,6 +52,7 @@ fn past_sure(class: Class, text: &str) -> &str
 }
 
 /// The text after the longest run.
+#[inline(always)]
 pub fn past_run(class: Class, text: &str) -> &str
     ensures parts { text.now ≡ encode_utf8_all (taken (classes.has class) (chars text.now)) ++ result.now }
     ensures rest { chars result.now ≡ past (classes.has class) (chars text.now) }
@@ -69,6 +72,7 @@ pub fn past_run(class: Class, text: &str) -> &str
 }
 
 /// The longest run, and the text after it.
+#[inline(always)]
 pub fn run(class: Class, text: &str) -> (&str, &str)
     ensures front { result.0.now ≡ encode_utf8_all (taken (classes.has class) (chars text.now)) }
     ensures rest { chars result.1.now ≡ past (classes.has class) (chars text.now) }

@@ -2,7 +2,7 @@
 //!
 //! Each end is sought once: what stands before it is taken whole, or read on byte by byte, or is a fault.
 
-ghost use Rattle.std.specs.Prelude.{◌≡◌, ◌<◌, ◌==◌, true, not, length, Some, None, MatchOption, encode_utf8_all};
+ghost use Rattle.std.specs.Prelude.{◌≡◌, ◌<◌, ◌==◌, true, not, length, Some, None, MatchOption, IsTrue, codes, encode_utf8_all};
 ghost use Rattle.std.specs.List.{list_all};
 ghost use Rattle.std.specs.Str.{chars};
 ghost use Rattle.xmp_values.specs.Characters.{is_char};
@@ -91,6 +91,13 @@ pub fn value_text(quote: char, text: &str) -> (&str, &str)
         }
     }
     run(Class::Value(quote), text)
+}
+
+/// Whether no `]` stands in the text, and so no `]]>`. A search for one byte is cheap to begin.
+pub fn lacks_bracket(text: &str) -> bool
+    ensures { IsTrue result → up_to (codes "]]>") (chars text.now) ≡ None }
+{
+    memchr(b']', text.as_bytes()).is_none()
 }
 
 /// The Chars up to a word, and the text after the word.

@@ -13,7 +13,7 @@ ghost use Rattle.xml_tokenizer.specs.Steps.{Gives};
 use crate::declarations::declaration_of;
 use crate::references::reference_of;
 use crate::runs::{after, begins, behind, next_char};
-use crate::searches::{before, plain_text};
+use crate::searches::{before, lacks_bracket, plain_text};
 use crate::sections::{cdata_of, past_comment, past_instruction};
 use crate::stops::Miss;
 use crate::tags::{end_of, start_of};
@@ -92,6 +92,9 @@ fn plain_run(inside: bool, text: &str) -> (&str, &str)
 {
     let (plain, rest) = plain_text(text);
     if !inside {
+        return (plain, rest);
+    }
+    if lacks_bracket(plain) {
         return (plain, rest);
     }
     match before("]]>", plain) {

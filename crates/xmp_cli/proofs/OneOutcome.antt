@@ -1,25 +1,20 @@
 -- A command has at most one outcome over files.
-use Rattle.std.proofs.Common.{◌≡◌, ℕ, List, sym, ap, ◌∙◌, Ok, Err, Some, None}
+use Rattle.std.proofs.Common.{◌≡◌, ℕ, List, sym, ap, ◌∙◌, Some, None}
 use Rattle.std.specs.declared.option.Option.{Option}
 use Rattle.std.specs.declared.result.Result.{Result}
 use Rattle.std.specs.FinMap.{get}
 use Rattle.xmp_base.specs.Device.{Files}
 use Rattle.xmp_values.specs.declared.faults.Fault.{Fault}
 use Rattle.xmp_rdf.specs.declared.meanings.Meaning.{Meaning}
-use Rattle.xmp_files.specs.Loading.{loaded, followed}
-use Rattle.xmp_files.specs.Opening.{HoldsBy}
-use Rattle.xmp_files.proofs.OneStep.{one_step}
+use Rattle.xmp_files.specs.declared.opening.Opened.{Opened}
+use Rattle.xmp_files.proofs.OneStep.{one_held}
 use Rattle.xmp_cli.specs.Commands.{Command, Get, Tree, Set, Apply, Patch, Reconcile, Check, Demo, Sync}
-use Rattle.xmp_cli.specs.Answer.{Outcome, IsOutcome, IsShown, shown}
+use Rattle.xmp_cli.specs.Answer.{Outcome, IsOutcome, IsShown, shown, seen}
 use Rattle.xmp_cli.specs.Order.{get_text, tree_text}
-
-held_once : (load : Result (List ℕ) Fault) (a b : Result Meaning Fault) → HoldsBy load a → HoldsBy load b → a ≡ b
-held_once (Ok payload) a b p q = one_step payload a b p q
-held_once (Err fault) a b p q = p ∙ sym q
 
 shown_once : (view : Meaning → Result (List ℕ) Fault) (file : Option (List ℕ)) (a b : Outcome) → IsShown view file a → IsShown view file b → a ≡ b
 shown_once view file a b p q =
-    p.2 ∙ ap (λ (step : Result Meaning Fault). shown (followed step view)) (held_once (loaded file) p.0 q.0 p.1 q.1) ∙ sym q.2
+    p.2 ∙ ap (λ (step : Result Opened Fault). shown (seen view step)) (one_held file p.0 q.0 p.1 q.1) ∙ sym q.2
 
 pub one_outcome : (command : Option Command) (files : Files) (a b : Outcome) → IsOutcome command files a → IsOutcome command files b → a ≡ b
 one_outcome None files a b p q = p ∙ sym q

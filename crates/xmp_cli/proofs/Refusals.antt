@@ -1,5 +1,6 @@
 -- Which refusals a command that shows a view has.
-use Rattle.std.proofs.Common.{◌≡◌, ℕ, List, refl, Ok, Err, Some, None, Bool, true, false, subst, inl, inr, if◌then◌else◌}
+use Rattle.std.proofs.Common.{◌≡◌, ℕ, ◌≤◌, List, length, arith, sym, refl, Ok, Err, Some, None, Bool, true, false, subst, inl, inr, if◌then◌else◌}
+use Rattle.std.proofs.lemmas.List.{length-take}
 use Rattle.std.specs.declared.option.Option.{Option}
 use Rattle.std.specs.declared.result.Result.{Result}
 use Rattle.xmp_values.specs.declared.faults.Fault.{Fault}
@@ -15,11 +16,16 @@ use Rattle.xmp_tree.specs.declared.nested.Shape.{Shape, Shape-F, out-Shape}
 use Rattle.xmp_tree.specs.declared.nested.Shape.TheOpen as layer
 use Rattle.xmp_edit.specs.Paths.{one_name, name_in, name_by, space_of, split_name, is_reserved, at}
 use Rattle.xmp_rdf.specs.declared.meanings.Meaning.{Meaning}
-use Rattle.xmp_write.specs.Packets.{packet_text}
-use Rattle.xmp_files.specs.Faults.{fault_at}
-use Rattle.xmp_files.specs.Loading.{followed}
-use Rattle.xmp_files.specs.Opening.{Means, Opens, in_main}
-use Rattle.xmp_files.proofs.NeverMissing.{opens_there}
+use Rattle.xmp_packets.specs.Packets.{packet_text}
+use Rattle.xmp_base.specs.Device.{DeskState, len_of}
+use Rattle.xmp_values.specs.Stops.{fault_at}
+use Rattle.xmp_files.specs.declared.opening.Opened.{Opened}
+use Rattle.xmp_files.specs.Stages.{followed, Followed}
+use Rattle.xmp_files.specs.Keeping.{Piece, Kept}
+use Rattle.xmp_files.specs.Loads.{PayloadLies}
+use Rattle.xmp_files.specs.Opening.{Means, OpensMain, IsJoined, IsOpened, in_main, no_meaning}
+use Rattle.xmp_files.proofs.NeverMissing.{opened_there}
+use Rattle.xmp_cli.specs.Answer.{seen}
 use Rattle.xmp_cli.specs.declared.status.Status.TheVariants.{Refused}
 use Rattle.xmp_cli.specs.declared.views.View.{View}
 use Rattle.xmp_cli.specs.declared.views.View.TheVariants as views
@@ -31,8 +37,8 @@ use Rattle.xmp_cli.specs.Steps.{view_of, shows}
 pub same_fault : (f g : Fault) → Refused f ≡ Refused g → f ≡ g
 same_fault f g e = cc
 
-pub refuses : (c : Option Command) (f : Fault) → IsRefusal c f → Refuses c (Refused f)
-refuses c f h g e = subst (IsRefusal c) (same_fault f g e) h
+pub refuses : (c : Option Command) (t : DeskState) (f : Fault) → IsRefusal c t f → Refuses c t (Refused f)
+refuses c t f h g e = subst (IsRefusal c t) (same_fault f g e) h
 
 same_error : {A : Type 0} (f g : Fault) → (let r : Result A Fault = Err f in r) ≡ Err g → f ≡ g
 same_error f g e = cc
@@ -81,30 +87,55 @@ tree_gives : (m : Meaning) (fault : Fault) → tree_text m ≡ Err fault → ⊥
 unfolding tree_text
 tree_gives m fault e = cc
 
-view_refuses : (file : List ℕ) (view : View) (m : Meaning) (fault : Fault) → view_of view m ≡ Err fault
-    → IsRefusal (Some (shows file view)) fault × (fault.rule ≡ NoFile → ⊥)
-view_refuses file (views.Value path) m fault e = let is = stopped (get_text path.now m) fault (get_stops path.now m) e in (inr is, path_there fault is)
+view_refuses : (file : List ℕ) (view : View) (t : DeskState) (m : Meaning) (fault : Fault) → view_of view m ≡ Err fault
+    → IsRefusal (Some (shows file view)) t fault × (fault.rule ≡ NoFile → ⊥)
+view_refuses file (views.Value path) t m fault e = let is = stopped (get_text path.now m) fault (get_stops path.now m) e in (inr is, path_there fault is)
   where
     path_there : (f : Fault) → IsPathRefusal f → f.rule ≡ NoFile → ⊥
     path_there f (inl e) rule = cc
     path_there f (inr (inl e)) rule = cc
     path_there f (inr (inr (inl e))) rule = cc
     path_there f (inr (inr (inr e))) rule = cc
-view_refuses file views.Tree m fault e = absurd (tree_gives m fault e)
+view_refuses file views.Tree t m fault e = absurd (tree_gives m fault e)
 
-pub file_refuses : (file : List ℕ) (view : View) (fault : Fault) → IsFileRefusal fault → IsRefusal (Some (shows file view)) fault
-file_refuses file (views.Value path) fault h = inl h
-file_refuses file views.Tree fault h = h
+pub file_refuses : (file : List ℕ) (view : View) (t : DeskState) (fault : Fault) → IsFileRefusal (len_of t file) fault → IsRefusal (Some (shows file view)) t fault
+file_refuses file (views.Value path) t fault h = inl h
+file_refuses file views.Tree t fault h = h
 
-packet_refuses : (text : List ℕ) (read : Result Meaning (Rule × ℕ)) (fault : Fault) → Means text read → (let e : Result Meaning Fault = Err fault in e) ≡ in_main read → IsPacketRefusal fault
-packet_refuses text (Ok m) fault means e = absurd (let bad : Err fault ≡ Ok m = e in cc)
-packet_refuses text (Err (rule, place)) fault means e = (text, rule, place, means, same_error fault (fault_at rule Main place) e)
+text_short : (payload : List ℕ) → length (packet_text payload) ≤ length payload
+text_short payload = omega (arith, length-take {A = ℕ})
 
--- a view of a payload refuses as its packet, the path and what is there do
-pub step_refuses : (file : List ℕ) (view : View) (payload : List ℕ) (step : Result Meaning Fault) (fault : Fault) → Opens payload step → followed step (view_of view) ≡ Err fault
-    → IsRefusal (Some (shows file view)) fault × (fault.rule ≡ NoFile → ⊥)
-step_refuses file view payload (Ok m) fault opens e = view_refuses file view m fault e
-step_refuses file view payload (Err f) fault opens e =
+read_refuses : (size : ℕ) (text : List ℕ) (read : Result Meaning (Rule × ℕ)) (fault : Fault) → length text ≤ size → Means text read
+    → (let e : Result Meaning Fault = Err fault in e) ≡ in_main read → IsPacketRefusal size fault
+read_refuses size text (Ok m) fault short means e = absurd (let bad : Err fault ≡ Ok m = e in cc)
+read_refuses size text (Err (rule, place)) fault short means e = record {
+  text = text;
+  short = short;
+  rule = rule;
+  place = place;
+  means = means;
+  is = same_error fault (fault_at rule Main place) e;
+}
+
+main_refuses : (size : ℕ) (payload : Option Piece) (fault : Fault) → PayloadLies size payload → OpensMain payload (Err fault) → IsPacketRefusal size fault
+main_refuses size None fault lies opens = absurd (let bad : Err fault ≡ Ok no_meaning = opens in cc)
+main_refuses size (Some piece) fault lies opens =
+    read_refuses size (packet_text piece.bytes) opens.0 fault (omega (arith, lies.0, text_short piece.bytes)) opens.1 opens.2
+
+joined_refuses : (size : ℕ) (kept : Kept) (main : Result Meaning Fault) (fault : Fault) → PayloadLies size kept.payload → OpensMain kept.payload main
+    → Followed main (IsJoined kept) (Err fault) → IsPacketRefusal size fault
+joined_refuses size kept (Ok meaning) fault lies opens is = absurd (let bad : Err fault ≡ Ok (record { meaning = meaning; joined = false }) = is in cc)
+joined_refuses size kept (Err f) fault lies opens is =
+    main_refuses size kept.payload fault lies (subst (λ (g : Fault). OpensMain kept.payload (Err g)) (sym (opened_error fault f is)) opens)
+  where
+    opened_error : (f g : Fault) → (let r : Result Opened Fault = Err f in r) ≡ Err g → f ≡ g
+    opened_error f g e = cc
+
+-- a view of what is kept refuses as its packet, the path and what is there do
+pub step_refuses : (file : List ℕ) (view : View) (t : DeskState) (kept : Kept) (step : Result Opened Fault) (fault : Fault) → PayloadLies (len_of t file) kept.payload
+    → IsOpened kept step → seen (view_of view) step ≡ Err fault → IsRefusal (Some (shows file view)) t fault × (fault.rule ≡ NoFile → ⊥)
+step_refuses file view t kept (Ok opened) fault lies opens e = view_refuses file view t opened.meaning fault e
+step_refuses file view t kept (Err f) fault lies opens e =
     let same : f ≡ fault = same_error f fault e in
-    let is = subst IsPacketRefusal same (packet_refuses (packet_text payload) opens.0 f opens.1 opens.2) in
-    (file_refuses file view fault (inr (inr is)), opens_there payload fault (subst (λ (g : Fault). Opens payload (Err g)) same opens))
+    let is = subst (λ (g : Fault). IsOpened kept (Err g)) same opens in
+    (file_refuses file view t fault (inr (inr (joined_refuses (len_of t file) kept is.0 fault lies is.1 is.2))), opened_there kept fault is)

@@ -16,8 +16,9 @@ use Rattle.xmp_tree.specs.Parts.{Parts}
 use Rattle.xmp_write.specs.declared.forms.Form.{Form}
 use Rattle.xmp_write.specs.Prefixes.{prefixes}
 use Rattle.xmp_write.specs.Lines.{lines}
-use Rattle.xmp_files.specs.Faults.{fault_at, not_built}
-use Rattle.xmp_files.specs.Loading.{followed}
+use Rattle.xmp_values.specs.Stops.{fault_at}
+use Rattle.xmp_files.specs.Faults.{not_built}
+use Rattle.xmp_files.specs.Stages.{followed}
 
 -- a rule that PATH breaks, the second word behind the command; a path of a form that isn't built yet is refused as such
 abbrev pub path_fault : Rule → Fault

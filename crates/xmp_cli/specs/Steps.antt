@@ -2,13 +2,15 @@
 use Rattle.std.specs.Prelude.{◌≡◌, ℕ, List, Ok, Err}
 use Rattle.std.specs.declared.result.Result.{Result}
 use Rattle.xmp_values.specs.declared.faults.Fault.{Fault}
+use Rattle.xmp_values.specs.declared.stops.FaultStop.{FaultStop}
+use Rattle.xmp_values.specs.Stops.{fault_of, Answers}
 use Rattle.xmp_rdf.specs.declared.meanings.Meaning.{Meaning}
-use Rattle.xmp_files.specs.Loading.{followed}
-use Rattle.xmp_files.specs.Opening.{Opens}
+use Rattle.xmp_files.specs.declared.opening.Opened.{Opened}
+use Rattle.xmp_files.specs.Keeping.{Kept}
+use Rattle.xmp_files.specs.Opening.{IsOpened}
 use Rattle.xmp_cli.specs.Commands.{Command, Get, Tree as TreeOf}
 use Rattle.xmp_cli.specs.Order.{get_text, tree_text}
-use Rattle.xmp_cli.specs.declared.stop.Stop.{Stop}
-use Rattle.xmp_cli.specs.declared.stop.Stop.TheVariants.{Fault as Stopped, Memory}
+use Rattle.xmp_cli.specs.Answer.{seen}
 use Rattle.xmp_cli.specs.declared.views.View.{View}
 use Rattle.xmp_cli.specs.declared.views.View.TheVariants.{Value, Tree}
 
@@ -22,18 +24,10 @@ abbrev pub shows : List ℕ → View → Command
 shows file (Value path) = Get file path.now
 shows file Tree = TreeOf file
 
--- the text, or the fault
-abbrev pub Gives : Result (List ℕ) Stop → Result (List ℕ) Fault → Type 0
-Gives (Ok text) step = step ≡ Ok text
-Gives (Err (Stopped fault)) step = step ≡ Err fault
-Gives (Err Memory) step = Unit {0}
+-- a step of what is kept of a file gives this
+abbrev pub Shows : (Meaning → Result (List ℕ) Fault) → Kept → Result (List ℕ) Fault → Type 0
+Shows view kept given = (step : Result Opened Fault) × IsOpened kept step × (seen view step ≡ given)
 
--- what a view of a payload gives, for a step that the payload has
-abbrev pub ViewAgrees : (Meaning → Result (List ℕ) Fault) → Result (List ℕ) Stop → Result Meaning Fault → Type 0
-ViewAgrees view result step = Gives result (followed step view)
-
--- the answer is that of a step which the payload has; want of memory is free
-abbrev pub IsViewed : (Meaning → Result (List ℕ) Fault) → Result (List ℕ) Stop → List ℕ → Type 0
-IsViewed view (Err Memory) payload = Unit {0}
-IsViewed view (Ok text) payload = (step : Result Meaning Fault) × Opens payload step × (followed step view ≡ Ok text)
-IsViewed view (Err (Stopped fault)) payload = (step : Result Meaning Fault) × Opens payload step × (followed step view ≡ Err fault)
+-- the answer is that of a step; want of memory is free
+abbrev pub IsViewed : (Meaning → Result (List ℕ) Fault) → Result (List ℕ) FaultStop → Kept → Type 0
+IsViewed view result kept = Answers fault_of result (λ text. Shows view kept (Ok text)) (λ fault. Shows view kept (Err fault))

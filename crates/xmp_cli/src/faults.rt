@@ -2,7 +2,7 @@
 ghost use Rattle.std.specs.Prelude.{◌≡◌};
 ghost use Rattle.xmp_cli.specs.Order.{no_such_place, path_fault};
 
-use xmp_files::{fault_at, not_built};
+use xmp_files::not_built;
 use xmp_values::{Fault, Part, Rule};
 
 /// A rule that PATH breaks, the second word behind the command.
@@ -11,7 +11,7 @@ pub fn path_fault(rule: Rule) -> Fault
 {
     match rule {
         Rule::NotBuilt => not_built(),
-        _ => fault_at(rule, Part::Words, 2),
+        _ => Fault::at(rule, Part::Words, 2),
     }
 }
 
@@ -19,5 +19,5 @@ pub fn path_fault(rule: Rule) -> Fault
 pub fn no_such_place() -> Fault
     ensures { result ≡ no_such_place }
 {
-    fault_at(Rule::NoSuchPlace, Part::Words, 2)
+    Fault::at(Rule::NoSuchPlace, Part::Words, 2)
 }

@@ -1,30 +1,21 @@
 //! `get FILE PATH` and `tree FILE`: what a file means is shown.
-ghost use Rattle.std.specs.Prelude.{◌≡◌, Some};
-ghost use Rattle.std.specs.declared.result.Result.{Result};
-ghost use Rattle.xmp_values.specs.declared.faults.Fault.{Fault};
-ghost use Rattle.xmp_rdf.specs.declared.meanings.Meaning.{Meaning};
-ghost use Rattle.xmp_files.specs.Opening.{Opens};
-ghost use Rattle.xmp_cli.specs.Steps.{shows, view_of, IsViewed, ViewAgrees};
-ghost use Rattle.xmp_cli.specs.Run.{RunCall, Complete, Refuses};
+ghost use Rattle.std.specs.Prelude.{Some};
+ghost use Rattle.xmp_cli.specs.Steps.{shows, view_of, IsViewed};
+ghost use Rattle.xmp_cli.specs.Run.{RunCall, Refuses};
 
 use crate::shown::Shown;
 use crate::status::Status;
-use crate::stop::Stop;
 use crate::views::{View, text_of};
 use std::alloc::Global;
 use xmp_base::{Desk, Failed, Sink};
-use xmp_files::{Held, LoadStop, OpenStop, load, no_file, read_file};
+use xmp_files::{Held, LoadStop, Need, OpenStop, load, no_file, read_file};
 
-/// What a view shows of a file that is held.
-fn view_text<'h>(alloc: Global, held: &'h Held, view: View<'_>) -> Result<Shown<'h>, Stop>
-    ensures viewed { IsViewed (view_of view.entry) result held.now }
-    ensures each { (step : Result Meaning Fault) → Opens held.now step → ViewAgrees (view_of view.entry) result step }
+/// What a view shows of what is held of a file.
+fn view_text<'h>(alloc: Global, held: &'h Held, view: View<'_>) -> Result<Shown<'h>, OpenStop>
+    ensures { IsViewed (view_of view.entry) result held.now }
 {
-    match read_file(alloc, held) {
-        Ok(opened) => text_of(alloc, &opened.meaning, view),
-        Err(OpenStop::Fault(fault)) => Err(Stop::Fault(fault)),
-        Err(OpenStop::Memory) => Err(Stop::Memory),
-    }
+    let opened = read_file(alloc, held)?;
+    text_of(alloc, &opened.meaning, view)
 }
 
 /// Shows a view of a file.
@@ -36,10 +27,9 @@ pub fn show<D: Desk, O: Sink>(
     view: View<'_>,
 ) -> Status
     ensures call { RunCall (Some (shows file.now view.entry)) (D.state desk.old) (D.state desk.new) (O.state out.old) (O.state out.new) result }
-    ensures complete { Complete (Some (shows file.now view.entry)) (D.state desk.old) (D.state desk.new) (O.state out.old) (O.state out.new) result }
-    ensures refuses { Refuses (Some (shows file.now view.entry)) result }
+    ensures refuses { Refuses (Some (shows file.now view.entry)) (D.state desk.new) result }
 {
-    let held = match load(alloc, desk, file) {
+    let held = match load(alloc, desk, file, Need::Packet) {
         Ok(held) => held,
         Err(LoadStop::Absent) => return Status::Refused(no_file()),
         Err(LoadStop::Fault(fault)) => return Status::Refused(fault),
@@ -51,7 +41,7 @@ pub fn show<D: Desk, O: Sink>(
             Ok(()) => Status::Done,
             Err(Failed) => Status::Device,
         },
-        Err(Stop::Fault(fault)) => Status::Refused(fault),
-        Err(Stop::Memory) => Status::Memory,
+        Err(OpenStop::Fault(fault)) => Status::Refused(fault),
+        Err(OpenStop::Memory) => Status::Memory,
     }
 }

@@ -1,3 +1,4 @@
 pub mod Loads
 pub mod OneStep
+pub mod Opens
 pub mod NeverMissing

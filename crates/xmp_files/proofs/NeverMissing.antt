@@ -17,9 +17,11 @@ use Rattle.rdf_forms.specs.Rules.{or_else, broken, broken_in, placed, fault_at, 
 use Rattle.xmp_rdf.specs.Meanings.{reading, most_levels}
 use Rattle.xmp_rdf.specs.Meanings as readings
 use Rattle.xmp_rdf.specs.declared.meanings.Meaning.{Meaning}
-use Rattle.xmp_write.specs.Packets.{packet_text}
-use Rattle.xmp_files.specs.Faults as faults
-use Rattle.xmp_files.specs.Opening.{Means, Opens, in_main}
+use Rattle.xmp_packets.specs.Packets.{packet_text}
+use Rattle.xmp_values.specs.Stops as stops
+use Rattle.xmp_files.specs.Stages.{Followed}
+use Rattle.xmp_files.specs.Keeping.{Piece, Kept}
+use Rattle.xmp_files.specs.Opening.{Means, Opens, OpensMain, IsJoined, IsOpened, in_main, no_meaning}
 
 -- a rule, if there is one, isn't that of a missing file
 abbrev IsThere : Option Rule → Type 0
@@ -123,9 +125,21 @@ never_missing text place (inr read) = reading_there read.0 read.1 place read.3
 text_there : (text : List ℕ) (read : Result Meaning (Rule × ℕ)) (fault : Fault) → Means text read → (let e : Result Meaning Fault = Err fault in e) ≡ in_main read → fault.rule ≡ NoFile → ⊥
 text_there text (Ok m) fault means e missing = absurd (let bad : Err fault ≡ Ok m = e in cc)
 text_there text (Err (rule, place)) fault means e missing =
-    let same = same_err fault (faults.fault_at rule Main place) e in
+    let same = same_err fault (stops.fault_at rule Main place) e in
     never_missing text place (subst (λ (r : Rule). Means text (Err (r, place))) (sym (ap (λ (f : Fault). f.rule) same) ∙ missing) means)
 
 -- nor is a payload
-pub opens_there : (payload : List ℕ) (fault : Fault) → Opens payload (Err fault) → fault.rule ≡ NoFile → ⊥
+opens_there : (payload : List ℕ) (fault : Fault) → Opens payload (Err fault) → fault.rule ≡ NoFile → ⊥
 opens_there payload fault opens = text_there (packet_text payload) opens.0 fault opens.1 opens.2
+
+main_there : (payload : Option Piece) (fault : Fault) → OpensMain payload (Err fault) → fault.rule ≡ NoFile → ⊥
+main_there None fault is = absurd (let bad : Err fault ≡ Ok no_meaning = is in cc)
+main_there (Some piece) fault opens = opens_there piece.bytes fault opens
+
+joined_there : (kept : Kept) (main : Result Meaning Fault) (fault : Fault) → OpensMain kept.payload main → Followed main (IsJoined kept) (Err fault) → fault.rule ≡ NoFile → ⊥
+joined_there kept (Ok meaning) fault opens is = absurd (let bad : Err fault ≡ Ok (record { meaning = meaning; joined = false }) = is in cc)
+joined_there kept (Err f) fault opens is = main_there kept.payload fault (subst (λ (g : Fault). OpensMain kept.payload (Err g)) (let e : f ≡ fault = cc is in e) opens)
+
+-- nor is what is kept
+pub opened_there : (kept : Kept) (fault : Fault) → IsOpened kept (Err fault) → fault.rule ≡ NoFile → ⊥
+opened_there kept fault opens = joined_there kept opens.0 fault opens.1 opens.2

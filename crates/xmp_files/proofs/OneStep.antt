@@ -1,6 +1,8 @@
--- A payload has at most one step.
-use Rattle.std.proofs.Common.{◌≡◌, ◌∙◌, ℕ, List, Ok, Err, inl, inr, sym, ap, subst, refl}
+-- What is kept of a file, and what it means, have at most one step each.
+use Rattle.std.proofs.Common.{◌≡◌, ◌∙◌, ℕ, List, [], Ok, Err, Some, None, inl, inr, sym, ap, subst, refl}
+use Rattle.std.specs.declared.option.Option.{Option}
 use Rattle.std.specs.declared.result.Result.{Result}
+use Rattle.std.specs.Option.{unwrap_or}
 use Rattle.xmp_values.specs.declared.faults.Fault.{Fault}
 use Rattle.xmp_values.specs.declared.hints.Hint.{Hint}
 use Rattle.xmp_values.specs.declared.rules.Rule.{Rule}
@@ -9,8 +11,28 @@ use Rattle.xml_grammar.specs.Documents.{IsDocument}
 use Rattle.xml_grammar.proofs.OneMeaning.{one_document, one_fault, no_fault}
 use Rattle.xmp_rdf.specs.declared.meanings.Meaning.{Meaning}
 use Rattle.xmp_rdf.specs.Meanings.{reading}
-use Rattle.xmp_write.specs.Packets.{packet_text}
-use Rattle.xmp_files.specs.Opening.{Means, Opens, in_main}
+use Rattle.xmp_packets.specs.Packets.{packet_text}
+use Rattle.xmp_files.specs.declared.kinds.Kind.{Kind}
+use Rattle.xmp_files.specs.declared.kinds.Kind.TheVariants.{Sidecar}
+use Rattle.xmp_files.specs.declared.held.Need.{Need}
+use Rattle.xmp_files.specs.declared.held.Need.TheVariants.{Packet}
+use Rattle.xmp_files.specs.declared.opening.Opened.{Opened}
+use Rattle.xmp_files.specs.Stages.{followed, Followed}
+use Rattle.xmp_files.specs.Keeping.{Piece, Kept}
+use Rattle.xmp_files.specs.Loading.{kind_of_file, limited, IsContained, IsKept, IsLoaded}
+use Rattle.xmp_files.specs.Opening.{Means, Opens, OpensMain, IsJoined, IsOpened, Holds, in_main}
+
+-- a relation holds of at most one step
+abbrev One : {B : Type 0} → (Result B Fault → Type 0) → Type 0
+One {B} IsStep = (a b : Result B Fault) → IsStep a → IsStep b → a ≡ b
+
+one_followed : {A B : Type 0} (first : Result A Fault) (Next : A → Result B Fault → Type 0) → ((x : A) → One (Next x)) → One (Followed first Next)
+one_followed (Ok x) Next one = one x
+one_followed (Err fault) Next one = λ a b p q. p ∙ sym q
+
+one_after : {A B : Type 0} (first other : Result A Fault) (Next : A → Result B Fault → Type 0) → ((x : A) → One (Next x)) → first ≡ other
+    → (a b : Result B Fault) → Followed first Next a → Followed other Next b → a ≡ b
+one_after first other Next one same a b p q = one_followed first Next one a b p (subst (λ f. Followed f Next b) (sym same) q)
 
 -- the readings of a text's documents are one
 same_reading : (text : List ℕ) (e f : Element) (g h : List Hint) (a b : Result Meaning (Rule × ℕ)) → IsDocument text e g → IsDocument text f h
@@ -19,7 +41,7 @@ same_reading text e f g h a b d k i j =
     let same = one_document text e f g h d k in
     sym i ∙ ap (λ x. reading x g) same.0 ∙ ap (λ x. reading f x) same.1 ∙ j
 
-pub one_meaning : (text : List ℕ) (a b : Result Meaning (Rule × ℕ)) → Means text a → Means text b → a ≡ b
+one_meaning : (text : List ℕ) (a b : Result Meaning (Rule × ℕ)) → Means text a → Means text b → a ≡ b
 one_meaning text (Ok m) (Ok n) p q = same_reading text p.0 q.0 p.1 q.1 (Ok m) (Ok n) p.2 q.2 p.3 q.3
 one_meaning text (Ok m) (Err (r, place)) p (inl f) = absurd (no_fault text p.0 p.1 r place p.2 f)
 one_meaning text (Ok m) (Err (r, place)) p (inr q) = same_reading text p.0 q.0 p.1 q.1 (Ok m) (Err (r, place)) p.2 q.2 p.3 q.3
@@ -32,16 +54,28 @@ one_meaning text (Err (r, place)) (Err (s, other)) (inl f) (inr q) = absurd (no_
 one_meaning text (Err (r, place)) (Err (s, other)) (inr p) (inl g) = absurd (no_fault text p.0 p.1 s other p.2 g)
 one_meaning text (Err (r, place)) (Err (s, other)) (inr p) (inr q) = same_reading text p.0 q.0 p.1 q.1 (Err (r, place)) (Err (s, other)) p.2 q.2 p.3 q.3
 
--- what the text of a payload means is a step of the payload
-pub opens_as : (payload text : List ℕ) (read : Result Meaning (Rule × ℕ)) → text ≡ packet_text payload → Means text read → Opens payload (in_main read)
-opens_as payload text read is means = (read, subst (λ (t : List ℕ). Means t read) is means, refl)
+one_payload : (payload : List ℕ) → One (Opens payload)
+one_payload payload a b p q = p.2 ∙ ap in_main (one_meaning (packet_text payload) p.0 q.0 p.1 q.1) ∙ sym q.2
 
--- and the one that the payload has
-pub step_of : (payload text : List ℕ) (read : Result Meaning (Rule × ℕ)) (step : Result Meaning Fault) → text ≡ packet_text payload → Means text read
-    → Opens payload step → step ≡ in_main read
-step_of payload text read step is means opens =
-    opens.2 ∙ ap in_main (one_meaning (packet_text payload) opens.0 read opens.1 (subst (λ (t : List ℕ). Means t read) is means))
+one_main : (payload : Option Piece) → One (OpensMain payload)
+one_main None = λ a b p q. p ∙ sym q
+one_main (Some piece) = one_payload piece.bytes
 
--- two steps of a payload are one
-pub one_step : (payload : List ℕ) (a b : Result Meaning Fault) → Opens payload a → Opens payload b → a ≡ b
-one_step payload a b p q = step_of payload (packet_text payload) q.0 a refl q.1 p ∙ sym q.2
+one_joined : (kept : Kept) (meaning : Meaning) → One (IsJoined kept meaning)
+one_joined kept meaning a b p q = p ∙ sym q
+
+pub one_opened : (kept : Kept) (a b : Result Opened Fault) → IsOpened kept a → IsOpened kept b → a ≡ b
+one_opened kept a b p q = one_after p.0 q.0 (IsJoined kept) (one_joined kept) (one_main kept.payload p.0 q.0 p.1 q.1) a b p.2 q.2
+
+one_contained : (need : Need) (kind : Kind) (bytes : List ℕ) → One (IsContained need kind bytes)
+one_contained need Sidecar bytes = λ a b p q. p ∙ sym q
+one_contained need other bytes = λ a b p q. p ∙ sym q
+
+one_kept : (need : Need) (bytes : List ℕ) (kind : Kind) → One (IsKept need bytes kind)
+one_kept need bytes kind a b p q = p.2 ∙ ap (λ (h : Result Kept Fault). followed h limited) (one_contained need kind bytes p.0 q.0 p.1 q.1) ∙ sym q.2
+
+pub one_loaded : (need : Need) (file : Option (List ℕ)) (a b : Result Kept Fault) → IsLoaded need file a → IsLoaded need file b → a ≡ b
+one_loaded need file = one_followed (kind_of_file file) (IsKept need (unwrap_or file [])) (one_kept need (unwrap_or file []))
+
+pub one_held : (file : Option (List ℕ)) (a b : Result Opened Fault) → Holds file a → Holds file b → a ≡ b
+one_held file a b p q = one_after p.0 q.0 IsOpened one_opened (one_loaded Packet file p.0 q.0 p.1 q.1) a b p.2 q.2

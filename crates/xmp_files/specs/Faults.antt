@@ -1,13 +1,9 @@
 -- The refusals of a file, with their places and their numbers.
 use Rattle.std.specs.Prelude.{ℕ}
+use Rattle.xmp_values.specs.Stops.{fault_at}
 use Rattle.xmp_values.specs.declared.faults.Fault.{Fault}
-use Rattle.xmp_values.specs.declared.faults.Part.{Part}
 use Rattle.xmp_values.specs.declared.faults.Part.TheVariants.{File, Main}
-use Rattle.xmp_values.specs.declared.rules.Rule.{Rule}
 use Rattle.xmp_values.specs.declared.rules.Rule.TheVariants.{NoFile, FileLimit, NotKnown, NotBuilt, XmpLimit}
-
-abbrev pub fault_at : Rule → Part → ℕ → Fault
-fault_at rule part at = record { rule = rule; place = record { part = part; at = at }; x = 0; y = 0 }
 
 -- FILE isn't there
 abbrev pub no_file : Fault

@@ -1,6 +1,10 @@
 pub mod Kinds
 pub mod Faults
+pub mod Stages
+pub mod Keeping
 pub mod Loading
-pub mod Loads
+pub mod Sparing
 pub mod Opening
+pub mod Planning
+pub mod Loads
 pub mod Openings

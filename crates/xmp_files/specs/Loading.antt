@@ -1,18 +1,15 @@
--- From a file to the payload of its packet: the first steps of the one order, each of which gives a value or the
--- first fault.
-use Rattle.std.specs.Prelude.{ℕ, List, nat_lt, length, if◌then◌else◌, Option, None, Some, Ok, Err}
-use Rattle.std.specs.Option.{ok_or}
+-- From a file to what is kept of it: the first steps of the one order.
+use Rattle.std.specs.Prelude.{◌≡◌, ℕ, List, [], nat_lt, length, if◌then◌else◌, Option, None, Some, Ok, Err}
+use Rattle.std.specs.Option.{ok_or, unwrap_or}
 use Rattle.std.specs.declared.result.Result.{Result}
 use Rattle.xmp_values.specs.declared.faults.Fault.{Fault}
 use Rattle.xmp_files.specs.declared.kinds.Kind.{Kind}
 use Rattle.xmp_files.specs.declared.kinds.Kind.TheVariants.{Sidecar}
+use Rattle.xmp_files.specs.declared.held.Need.{Need}
 use Rattle.xmp_files.specs.Faults.{no_file, file_limit, over_limit, not_known, not_built, packet_limit, over_packet}
 use Rattle.xmp_files.specs.Kinds.{kind_of}
-
--- a step, and behind it the next ones
-abbrev pub followed : {A B : Type 0} → Result A Fault → (A → Result B Fault) → Result B Fault
-followed (Ok x) next = next x
-followed (Err fault) next = Err fault
+use Rattle.xmp_files.specs.Stages.{followed, Followed}
+use Rattle.xmp_files.specs.Keeping.{Piece, Kept, sidecar}
 
 -- First FILE is there and within the limit.
 abbrev pub within : Option (List ℕ) → Result (List ℕ) Fault
@@ -23,23 +20,27 @@ within (Some bytes) = if nat_lt file_limit (length bytes) then Err (over_limit (
 abbrev pub known : List ℕ → Result Kind Fault
 known bytes = ok_or (kind_of bytes) not_known
 
--- Then its container, which holds the payload. Sidecars alone are read yet: their payload is the whole file.
-abbrev pub contained : Kind → List ℕ → Result (List ℕ) Fault
-contained Sidecar bytes = Ok bytes
-contained other bytes = Err not_built
-
--- Then the payload is within the limit.
-abbrev pub limited : List ℕ → Result (List ℕ) Fault
-limited payload = if nat_lt packet_limit (length payload) then Err (over_packet (length payload)) else Ok payload
-
--- the payload of a file of these bytes, which are within the limit
-abbrev pub payload_of : List ℕ → Result (List ℕ) Fault
-payload_of bytes = followed (known bytes) (λ kind. followed (contained kind bytes) limited)
-
--- the payload of FILE, if it is there
-abbrev pub loaded : Option (List ℕ) → Result (List ℕ) Fault
-loaded file = followed (within file) payload_of
-
--- the kind of FILE: the steps before memory is wanted
+-- These are functions of the file, since memory is wanted of a file alone that passes them.
 abbrev pub kind_of_file : Option (List ℕ) → Result Kind Fault
 kind_of_file file = followed (within file) known
+
+-- Then its container, by a relation, since the containers are given by relations. Sidecars alone are built yet.
+abbrev pub IsContained : Need → Kind → List ℕ → Result Kept Fault → Type 0
+IsContained need Sidecar bytes step = step ≡ Ok (sidecar need bytes)
+IsContained need other bytes step = step ≡ Err not_built
+
+-- Then the main payload is within the limit.
+abbrev pub limited_by : Kept → Option Piece → Result Kept Fault
+limited_by kept None = Ok kept
+limited_by kept (Some payload) = if nat_lt packet_limit (length payload.bytes) then Err (over_packet (length payload.bytes)) else Ok kept
+
+abbrev pub limited : Kept → Result Kept Fault
+limited kept = limited_by kept kept.payload
+
+-- what is kept of a file of these bytes and this kind
+abbrev pub IsKept : Need → List ℕ → Kind → Result Kept Fault → Type 0
+IsKept need bytes kind step = (held : Result Kept Fault) × IsContained need kind bytes held × (step ≡ followed held limited)
+
+-- what is kept of FILE, or the first fault
+abbrev pub IsLoaded : Need → Option (List ℕ) → Result Kept Fault → Type 0
+IsLoaded need file step = Followed (kind_of_file file) (IsKept need (unwrap_or file [])) step

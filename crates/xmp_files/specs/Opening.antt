@@ -1,6 +1,6 @@
--- From a payload to what its text means: the next steps of the one order. A text's document is the one that the grammar says, so these
--- steps are relations; at most one step holds of a payload.
-use Rattle.std.specs.Prelude.{◌≡◌, ◌⊎◌, ℕ, List, Option, Ok, Err}
+-- From what is kept of a file to what it means: the next steps of the one order. A text's document is the one that the grammar says,
+-- so these steps are relations; at most one step holds of what is kept.
+use Rattle.std.specs.Prelude.{◌≡◌, ◌⊎◌, ℕ, false, List, [], Option, None, Some, Ok, Err}
 use Rattle.std.specs.declared.result.Result.{Result}
 use Rattle.xmp_values.specs.declared.faults.Fault.{Fault}
 use Rattle.xmp_values.specs.declared.faults.Part.TheVariants.{Main}
@@ -8,11 +8,16 @@ use Rattle.xmp_values.specs.declared.hints.Hint.{Hint}
 use Rattle.xmp_values.specs.declared.rules.Rule.{Rule}
 use Rattle.xml_grammar.specs.declared.elements.Element.{Element}
 use Rattle.xml_grammar.specs.Documents.{IsDocument, IsFault}
+use Rattle.xmp_tree.specs.Parts.{Parts}
 use Rattle.xmp_rdf.specs.declared.meanings.Meaning.{Meaning}
 use Rattle.xmp_rdf.specs.Meanings.{reading}
-use Rattle.xmp_write.specs.Packets.{packet_text}
-use Rattle.xmp_files.specs.Faults.{fault_at}
-use Rattle.xmp_files.specs.Loading.{loaded}
+use Rattle.xmp_packets.specs.Packets.{packet_text}
+use Rattle.xmp_files.specs.declared.held.Need.TheVariants.{Packet}
+use Rattle.xmp_files.specs.declared.opening.Opened.{Opened}
+use Rattle.xmp_values.specs.Stops.{fault_at}
+use Rattle.xmp_files.specs.Stages.{Followed}
+use Rattle.xmp_files.specs.Keeping.{Piece, Kept}
+use Rattle.xmp_files.specs.Loading.{IsLoaded}
 
 -- what a text means: the reading of its one document, or the first fault of its XML, else of its RDF, with the rule and its place
 abbrev pub Means : List ℕ → Result Meaning (Rule × ℕ) → Type 0
@@ -29,11 +34,30 @@ in_main (Err (rule, place)) = Err (fault_at rule Main place)
 abbrev pub Opens : List ℕ → Result Meaning Fault → Type 0
 Opens payload step = (read : Result Meaning (Rule × ℕ)) × Means (packet_text payload) read × (step ≡ in_main read)
 
--- behind the steps before it
-abbrev pub HoldsBy : Result (List ℕ) Fault → Result Meaning Fault → Type 0
-HoldsBy (Ok payload) step = Opens payload step
-HoldsBy (Err fault) step = step ≡ Err fault
+-- no packet means the empty tree without hints
+abbrev pub no_meaning : Meaning
+no_meaning = record { tree = record { about = []; props = [] }; hints = []; note = None; places = [] }
 
--- what stands in FILE: its meaning, or the first fault of all steps up to here
-abbrev pub Holds : Option (List ℕ) → Result Meaning Fault → Type 0
-Holds file step = HoldsBy (loaded file) step
+abbrev pub OpensMain : Option Piece → Result Meaning Fault → Type 0
+OpensMain None step = step ≡ Ok no_meaning
+OpensMain (Some payload) step = Opens payload.bytes step
+
+-- Then the extended text is joined to what the main packet means. Portions aren't read yet, so there is none.
+abbrev pub IsJoined : Kept → Meaning → Result Opened Fault → Type 0
+IsJoined kept meaning step = step ≡ Ok (record { meaning = meaning; joined = false })
+
+-- what the file means that this was kept of, or the first fault
+abbrev pub IsOpened : Kept → Result Opened Fault → Type 0
+IsOpened kept step = (main : Result Meaning Fault) × OpensMain kept.payload main × Followed main (IsJoined kept) step
+
+-- what stands in FILE: what it means, or the first fault of all steps up to here
+abbrev pub Holds : Option (List ℕ) → Result Opened Fault → Type 0
+Holds file step = (kept : Result Kept Fault) × IsLoaded Packet file kept × Followed kept IsOpened step
+
+-- a file is read as a tree
+abbrev pub HoldsTree : Option (List ℕ) → Parts → Type 0
+HoldsTree file tree = (opened : Opened) × Holds file (Ok opened) × (opened.meaning.tree ≡ tree)
+
+-- A file that was changed in its place is read as the old tree or as the new one, or it is refused.
+abbrev pub IsWhole : Parts → Parts → Option (List ℕ) → Type 0
+IsWhole old new file = HoldsTree file old ⊎ HoldsTree file new ⊎ ((fault : Fault) × Holds file (Err fault))

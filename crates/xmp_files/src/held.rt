@@ -1,45 +1,61 @@
 //! What is kept of a file that was read.
 ghost use Rattle.std.specs.Prelude.{◌≡◌};
-ghost use Rattle.xmp_write.specs.Packets.{packet_text};
+ghost use Rattle.std.specs.Option.{option_copied, option_map};
+ghost use Rattle.xmp_packets.specs.Packets.{packet_text};
+ghost use Rattle.xmp_files.specs.Keeping.{sidecar};
 
 use std::marker::Model;
+use xmp_packets::Packet;
 use xmp_values::Bytes;
-use xmp_write::Packet;
 
-/// The payload of a file's packet. Contracts see its bytes.
+/// What of a file is asked for.
+#[derive(Clone, Copy, Debug, PartialEq, Eq)]
+pub enum Need {
+    /// The packet alone.
+    Packet,
+    /// The blocks of other metadata too.
+    Blocks,
+}
+
+/// What is kept of a file. Contracts see its kind, its length, its payload with its place, how it
+/// is made up, and what it has of portions and blocks.
 #[derive(Debug, Drop)]
 pub struct Held {
+    need: Need,
     payload: Bytes,
 }
 
 impl Model for Held {
-    ghost use Rattle.std.specs.Prelude.{List, ℕ};
+    ghost use Rattle.xmp_files.specs.Keeping.{Kept, sidecar};
 
-    ghost Value = { List ℕ };
+    ghost Value = { Kept };
 
-    ghost view = { λ h. h.payload };
+    ghost view = { λ h. sidecar h.need h.payload };
 }
 
 impl Held {
-    /// What is held of a file with this payload.
-    pub(crate) fn new(payload: Bytes) -> Held
-        ensures { result ≡ payload }
+    /// What is kept of a sidecar of these bytes.
+    pub(crate) fn sidecar(need: Need, bytes: Bytes) -> Held
+        ensures { result ≡ sidecar need bytes }
     {
-        Held { payload }
+        Held {
+            need,
+            payload: bytes,
+        }
     }
 
-    /// The payload.
-    pub fn payload(&self) -> &[u8]
-        ensures { result.now ≡ self.now }
+    /// The payload of the main packet, if there is one.
+    pub fn payload(&self) -> Option<&[u8]>
+        ensures { option_copied result ≡ option_map (λ piece. piece.bytes) self.now.payload }
     {
-        self.payload.as_slice()
+        Some(self.payload.as_slice())
     }
 
-    /// The packet's text: the payload without the zero bytes at its end.
-    pub fn text(&self) -> &[u8]
-        ensures { result.now ≡ packet_text self.now }
+    /// The main packet's text: the payload without the zero bytes at its end.
+    pub fn text(&self) -> Option<&[u8]>
+        ensures { option_copied result ≡ option_map (λ piece. packet_text piece.bytes) self.now.payload }
     {
         let payload = self.payload.as_slice();
-        &payload[..Packet::of(payload).text_len]
+        Some(&payload[..Packet::of(payload).text_len])
     }
 }

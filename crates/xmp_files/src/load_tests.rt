@@ -1,5 +1,5 @@
 //! Files that are loaded from devices, and those that are refused.
-use crate::{Held, LoadStop, load};
+use crate::{Held, LoadStop, Need, load};
 use std::alloc::Global;
 use std::test::Fail;
 use xmp_base::{MemoryDesk, SparseDesk};
@@ -15,7 +15,7 @@ fn load_failing(
     desk.add("a.xmp", bytes)?;
     desk.cut(5);
     desk.fail(failing)?;
-    Ok(load(alloc, &mut desk, "a.xmp"))
+    Ok(load(alloc, &mut desk, "a.xmp", Need::Packet))
 }
 
 /// Why a file of these bytes isn't loaded.
@@ -27,13 +27,16 @@ fn stop_of(alloc: Global, bytes: &[u8], failing: u64) -> Result<Option<LoadStop>
 fn stop_of_long(alloc: Global, front: &str, len: u64) -> Result<Option<LoadStop>, Memory> {
     let mut desk = SparseDesk::new(alloc, "a.xmp", len)?;
     desk.piece(0, front.as_bytes())?;
-    Ok(load(alloc, &mut desk, "a.xmp").err())
+    Ok(load(alloc, &mut desk, "a.xmp", Need::Packet).err())
 }
 
 /// Whether a sidecar's payload is the file, and its text so many bytes of it.
 fn is_held(alloc: Global, file: &str, text_len: usize) -> Result<bool, Memory> {
     match load_failing(alloc, file.as_bytes(), 0)? {
-        Ok(held) => Ok(held.payload() == file.as_bytes() && held.text().len() == text_len),
+        Ok(held) => Ok(
+            held.payload() == Some(file.as_bytes())
+                && held.text() == file.as_bytes().get(..text_len),
+        ),
         Err(_) => Ok(false),
     }
 }
@@ -68,7 +71,7 @@ fn files_are_refused(rt: HostRuntime) -> Result<(), Fail> {
     assert_eq!(rt; stop_of(alloc, b"MM\x00\x2a", 0)?, not_built);
     let mut desk = MemoryDesk::new(alloc);
     assert_eq!(rt;
-        load(alloc, &mut desk, "a.xmp").err(),
+        load(alloc, &mut desk, "a.xmp", Need::Packet).err(),
         Some(LoadStop::Absent)
     );
     Ok(())
@@ -94,7 +97,7 @@ fn long_files_are_refused(rt: HostRuntime) -> Result<(), Fail> {
 #[test]
 fn failures_of_the_desk(rt: HostRuntime) -> Result<(), Fail> {
     let alloc = rt.alloc();
-    // of 18 bytes, five at a time: one call of the length, four of the kind, four of the payload
+    // of 18 bytes, five at a time: one call of the length, four of the kind, four of the payload, and none more
     let file = b"<a>of 18 bytes</a>";
     for call in 1..10 {
         assert_eq!(rt;

@@ -1,61 +1,78 @@
-//! Loading the packet of a file.
+//! Loading a file: its length, its kind, and its packet.
 ghost use Rattle.std.specs.Prelude.{◌≡◌, length, Some, IsTrue};
 ghost use Rattle.xmp_base.specs.Device.{Told, bytes_of, is_known, len_of};
 ghost use Rattle.xmp_files.specs.Kinds.{kind_of};
 ghost use Rattle.xmp_files.specs.Loads.{KindCall, SizedCall, LoadCall};
 
 use crate::faults::{FILE_LIMIT, PACKET_LIMIT, not_built, not_known, over_limit, over_packet};
-use crate::held::Held;
+use crate::held::{Held, Need};
 use crate::kinds::{HEAD_LEN, Kind, kind_of};
 use std::alloc::Global;
 use xmp_base::{Desk, Failed, SizeStop, WindowStop, fill_from, window};
-use xmp_values::Fault;
+use xmp_values::FileStop;
 
-/// Why a file gives no payload.
-#[derive(Clone, Copy, Debug, PartialEq, Eq)]
-pub enum LoadStop {
-    /// There is no file of this name. The desk's count of misses rose.
-    Absent,
-    /// The file breaks a rule: it is over its limit, of no kind, or its packet is over its limit.
-    /// A kind that isn't built yet is refused too.
-    Fault(Fault),
-    /// The desk failed. Its count of faults rose.
-    Device,
-    /// There was no memory for a file of a kind.
-    Memory,
-}
-
-/// The packet of a file. Changes no file, and reads of no other name.
+/// What is kept of a file. Changes no file, and reads of no other name.
 ///
 /// Asks for the length, then reads the first 16 bytes, and then the payload. Of a file over its
 /// limit no byte is read, and of one that is refused by its kind, or for the length of its
 /// payload, none behind these 16. No memory is taken before the kind is known.
-pub fn load<D: Desk>(alloc: Global, desk: &mut D, name: &str) -> Result<Held, LoadStop>
-    ensures call { LoadCall (D.state desk.old) (D.state desk.new) name.now result }
+///
+/// # Errors
+/// `Absent` after a miss that the desk counted, `Device` after a failure that it counted, and the
+/// first fault: the file is over its limit or of no kind, its container is broken, or its payload is
+/// over its limit. A kind that isn't built yet is refused too.
+pub fn load<D: Desk>(alloc: Global, desk: &mut D, name: &str, need: Need) -> Result<Held, FileStop>
+    ensures call { LoadCall need (D.state desk.old) (D.state desk.new) name.now result }
 {
     let size = match desk.size(name) {
         Ok(size) => size,
-        Err(SizeStop::Absent) => return Err(LoadStop::Absent),
-        Err(SizeStop::Failed) => return Err(LoadStop::Device),
+        Err(SizeStop::Absent) => return Err(FileStop::Absent),
+        Err(SizeStop::Failed) => return Err(FileStop::Device),
     };
     if size > FILE_LIMIT {
-        return Err(LoadStop::Fault(over_limit(size)));
+        return Err(FileStop::Fault(over_limit(size)));
     }
-    load_sized(alloc, desk, name, size)
+    load_sized(alloc, desk, name, size, need)
 }
 
-/// The packet of a known file of this length.
-fn load_sized<D: Desk>(alloc: Global, desk: &mut D, name: &str, size: u64) -> Result<Held, LoadStop>
+/// What is kept of a known file of this length.
+fn load_sized<D: Desk>(
+    alloc: Global,
+    desk: &mut D,
+    name: &str,
+    size: u64,
+    need: Need,
+) -> Result<Held, FileStop>
     requires known { IsTrue (is_known (D.state desk.old) name.now) }
     requires len { len_of (D.state desk.old) name.now ≡ size }
     requires told { Told (D.state desk.old).files (λ files. length (bytes_of files name.now) ≡ size) }
-    ensures call { SizedCall (D.state desk.old) (D.state desk.new) name.now size result }
+    ensures call { SizedCall need (D.state desk.old) (D.state desk.new) name.now size result }
 {
     match kind_on(desk, name, size) {
-        Ok(Some(Kind::Sidecar)) => load_sidecar(alloc, desk, name, size),
-        Ok(Some(_)) => Err(LoadStop::Fault(not_built())),
-        Ok(None) => Err(LoadStop::Fault(not_known())),
-        Err(Failed) => Err(LoadStop::Device),
+        Ok(Some(kind)) => load_container(alloc, desk, name, size, need, kind),
+        Ok(None) => Err(FileStop::Fault(not_known())),
+        Err(Failed) => Err(FileStop::Device),
+    }
+}
+
+/// What is kept of a known file of this length and this kind.
+fn load_container<D: Desk>(
+    alloc: Global,
+    desk: &mut D,
+    name: &str,
+    size: u64,
+    need: Need,
+    kind: Kind,
+) -> Result<Held, FileStop>
+    requires known { IsTrue (is_known (D.state desk.old) name.now) }
+    requires len { len_of (D.state desk.old) name.now ≡ size }
+    requires told { Told (D.state desk.old).files (λ files. length (bytes_of files name.now) ≡ size) }
+    requires kind { Told (D.state desk.old).files (λ files. kind_of (bytes_of files name.now) ≡ Some kind) }
+    ensures call { SizedCall need (D.state desk.old) (D.state desk.new) name.now size result }
+{
+    match kind {
+        Kind::Sidecar => load_sidecar(alloc, desk, name, size, need),
+        _ => Err(FileStop::Fault(not_built())),
     }
 }
 
@@ -74,25 +91,26 @@ fn kind_on<D: Desk>(desk: &mut D, name: &str, size: u64) -> Result<Option<Kind>,
     }
 }
 
-/// The packet of a known sidecar of this length, which is the whole file.
+/// What is kept of a known sidecar of this length, whose payload is the whole file.
 fn load_sidecar<D: Desk>(
     alloc: Global,
     desk: &mut D,
     name: &str,
     size: u64,
-) -> Result<Held, LoadStop>
+    need: Need,
+) -> Result<Held, FileStop>
     requires known { IsTrue (is_known (D.state desk.old) name.now) }
     requires len { len_of (D.state desk.old) name.now ≡ size }
     requires told { Told (D.state desk.old).files (λ files. length (bytes_of files name.now) ≡ size) }
     requires kind { Told (D.state desk.old).files (λ files. kind_of (bytes_of files name.now) ≡ Some Kind.Sidecar) }
-    ensures call { SizedCall (D.state desk.old) (D.state desk.new) name.now size result }
+    ensures call { SizedCall need (D.state desk.old) (D.state desk.new) name.now size result }
 {
     if size > PACKET_LIMIT {
-        return Err(LoadStop::Fault(over_packet(size)));
+        return Err(FileStop::Fault(over_packet(size)));
     }
     match window(alloc, desk, name, 0, size as usize) {
-        Ok(payload) => Ok(Held::new(payload)),
-        Err(WindowStop::Device) => Err(LoadStop::Device),
-        Err(WindowStop::Memory) => Err(LoadStop::Memory),
+        Ok(payload) => Ok(Held::sidecar(need, payload)),
+        Err(WindowStop::Device) => Err(FileStop::Device),
+        Err(WindowStop::Memory) => Err(FileStop::Memory),
     }
 }

@@ -1,56 +1,63 @@
 //! What the packet of a file means.
 ghost use Rattle.std.specs.Prelude.{◌≡◌};
-ghost use Rattle.std.specs.declared.result.Result.{Result};
-ghost use Rattle.xmp_values.specs.declared.faults.Fault.{Fault};
-ghost use Rattle.xmp_rdf.specs.declared.meanings.Meaning.{Meaning};
-ghost use Rattle.xmp_files.specs.Opening.{Opens};
-ghost use Rattle.xmp_files.specs.Openings.{IsMeant, IsOpened, Agrees};
+ghost use Rattle.xmp_files.specs.Opening.{no_meaning};
+ghost use Rattle.xmp_files.specs.Openings.{IsMeant, OpenAnswer};
 
-use crate::faults::fault_at;
 use crate::held::Held;
 use std::alloc::Global;
 use xmp_rdf::{Meaning, RdfStop, tree_of};
-use xmp_values::{Fault, Part};
-use xmp_xml::{Doc, XmlStop, read};
+use xmp_tree::empty;
+use xmp_values::{FaultStop, Hints, Part, PlaceStop, Sequence};
+use xmp_xml::read;
 
-/// A file whose packet was read. It borrows what is held of the file.
+/// A file whose packet was read. It borrows what is kept of the file.
 #[derive(Drop)]
 pub struct Opened<'h> {
     pub meaning: Meaning<'h>,
-}
-
-/// Why a packet has no meaning.
-#[derive(Clone, Copy, Debug, PartialEq, Eq, Drop)]
-pub enum OpenStop {
-    /// Its text breaks a rule of XML, or an element of it one of RDF.
-    Fault(Fault),
-    /// Memory was wanted, and there was none.
-    Memory,
+    /// Whether an extended text was joined to the main packet.
+    pub joined: bool,
 }
 
 /// What a text means, or the first fault of its XML, else of its RDF.
-fn meaning_of<'p>(alloc: Global, text: &'p [u8]) -> Result<Meaning<'p>, RdfStop>
+fn meaning_of<'p>(alloc: Global, text: &'p [u8]) -> Result<Meaning<'p>, PlaceStop>
     ensures { IsMeant text.now result }
 {
-    match read(alloc, text) {
-        Ok(doc) => tree_of(alloc, &doc),
-        Err(XmlStop::Fault(rule, place)) => Err(RdfStop::Fault(rule, place)),
-        Err(XmlStop::Memory) => Err(RdfStop::Memory),
+    let doc = read(alloc, text)?;
+    match tree_of(alloc, &doc) {
+        Ok(meaning) => Ok(meaning),
+        Err(RdfStop::Fault(rule, place)) => Err(PlaceStop::Fault(rule, place)),
+        Err(RdfStop::Memory) => Err(PlaceStop::Memory),
     }
 }
 
-/// What the packet of a file means, or the first fault of its XML, else of its RDF.
-pub fn read_file<'h>(alloc: Global, held: &'h Held) -> Result<Opened<'h>, OpenStop>
-    // The answer is the payload's.
-    ensures opened { IsOpened held.now result }
-    // What the payload means, or its first fault, is answered, unless memory runs out.
-    ensures each { (step : Result Meaning Fault) → Opens held.now step → Agrees result step }
+/// What a file without a packet means. It takes no memory.
+fn no_meaning<'p>(alloc: Global) -> Meaning<'p>
+    ensures { result ≡ no_meaning }
 {
-    match meaning_of(alloc, held.text()) {
-        Ok(meaning) => Ok(Opened { meaning }),
-        Err(RdfStop::Fault(rule, place)) => {
-            Err(OpenStop::Fault(fault_at(rule, Part::Main, place)))
-        }
-        Err(RdfStop::Memory) => Err(OpenStop::Memory),
+    Meaning {
+        tree: empty(alloc),
+        hints: Hints::new(alloc),
+        note: None,
+        places: Sequence::new(alloc),
+    }
+}
+
+/// What a file means, or the first fault of its packet: of the XML, else of the RDF. It borrows the texts.
+pub fn read_file<'h>(alloc: Global, held: &'h Held) -> Result<Opened<'h>, FaultStop>
+    // The answer is the one step of what is kept of the file, unless memory runs out.
+    ensures { OpenAnswer held.now result }
+{
+    match held.text() {
+        Some(text) => match meaning_of(alloc, text) {
+            Ok(meaning) => Ok(Opened {
+                meaning,
+                joined: false,
+            }),
+            Err(stop) => Err(stop.within(Part::Main)),
+        },
+        None => Ok(Opened {
+            meaning: no_meaning(alloc),
+            joined: false,
+        }),
     }
 }

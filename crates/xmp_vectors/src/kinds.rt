@@ -97,3 +97,12 @@ fn a_long_file_is_refused_by_its_length(rt: HostRuntime) -> Result<(), Fail> {
     }
     Ok(())
 }
+
+/// The longest packet is read, and its text is judged: without the zeros it is `<`.
+#[test]
+fn the_longest_packet_is_read(rt: HostRuntime) -> Result<(), Fail> {
+    let path = ["get", "a.xmp", "dc:format"];
+    let ran = run_length(rt.alloc(), &path, b"<", 16_777_216)?;
+    assert!(rt; ran.ended("", "refused BadTag main 0 0 0\n"));
+    Ok(())
+}

@@ -21,9 +21,9 @@ use Rattle.xml_grammar.proofs.SoundPieces.{neither, same_bytes}
 use Rattle.xml_grammar.proofs.Repeats.{same_qname_is, same_prefix_is, same_name_is}
 use Rattle.xmp_xml.specs.declared.builder.Frame.{Frame}
 use Rattle.xmp_xml.specs.declared.builder.Builder.{Builder}
-use Rattle.xmp_xml.specs.Building.{is_nil, levels_of, is_rooted, nest_of, passed, with_text, after}
+use Rattle.xmp_xml.specs.Building.{is_nil, levels_of, is_rooted, nest_of, passed, with_text, after, within}
 use Rattle.xmp_xml.specs.Document.{allowed, piece_step, token_step}
-use Rattle.xmp_xml.specs.Tagging.{same_binding, same_attribute, tagged, tagged_with}
+use Rattle.xmp_xml.specs.Tagging.{same_binding, same_attribute, inside_of, tagged, tagged_with}
 use Rattle.xmp_xml.specs.Steps.{tag_rule, begun_unless, step_of}
 
 -- ---- the kinds that are no tags
@@ -232,14 +232,14 @@ rule_at (o ∷ os) top first text root hints scope at tag =
     let bound : List Binding = bindings_of tag.attributes ++ scope in
     λ i. chain false (list_any is_misbound (bindings_of tag.attributes)) (has_unbound bound tag) (twice_is bound tag.attributes i) (nat_le 100 (sym (depth_is top (o ∷ os) scope) i))
 
-start_at : (s : Builder) (at : ℕ) (tag : Tag) (o : Option Rule) → begun_unless s at (tagged s at tag) o ≡ allowed s at (Start tag) o
+start_at : (s : Builder) (at : ℕ) (tag : Tag) (o : Option Rule) → begun_unless (within s (inside_of s tag)) at (tagged s at tag) o ≡ allowed s at (Start tag) o
 unfolding after
 start_at s at tag None = refl
 start_at s at tag (Some r) = refl
 
 start_is : (s : Builder) (at : ℕ) (tag : Tag) → step_of s at (tokens.Start tag) ≡ piece_step s at (Start tag)
 start_is s at tag =
-    ap (begun_unless s at (tagged s at tag)) (rule_at s.outer s.top s.first s.text s.root s.hints s.scope at tag)
+    ap (begun_unless (within s (inside_of s tag)) at (tagged s at tag)) (rule_at s.outer s.top s.first s.text s.root s.hints s.scope at tag)
     ∙ start_at s at tag (broken (nest_of s) (Start tag))
 
 -- ---- all kinds

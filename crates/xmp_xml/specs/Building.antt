@@ -71,16 +71,16 @@ with_text s text = if is_nil s.outer then passed s else record { first = false; 
 abbrev pub frame : ℕ → Tag → List Binding → Frame
 frame at tag bound = record { at = at; spelled = tag.name; name = element_name bound tag.name; attributes = expanded_attributes bound tag.attributes; declared = length (bindings_of tag.attributes); children = [] }
 
--- without the declarations in force
-abbrev pub unscoped : Builder → Builder
-unscoped s = record { first = s.first; outer = s.outer; top = s.top; text = s.text; root = s.root; hints = s.hints; scope = [] }
+-- with these declarations in force
+abbrev pub within : Builder → List Binding → Builder
+within s inside = record { first = s.first; outer = s.outer; top = s.top; text = s.text; root = s.root; hints = s.hints; scope = inside }
 
--- an element more, with the declarations in force inside it
-abbrev pub with_frame : Builder → Frame → List Binding → List Hint → Builder
-with_frame s f inside hints = record { first = false; outer = texted s.top s.text ∷ s.outer; top = f; text = []; root = s.root; hints = s.hints ++ hints; scope = inside }
+-- an element more, inside which the builder's declarations are in force
+abbrev pub with_frame : Builder → Frame → List Hint → Builder
+with_frame s f hints = record { first = false; outer = texted s.top s.text ∷ s.outer; top = f; text = []; root = s.root; hints = s.hints ++ hints; scope = s.scope }
 
 abbrev pub opened_in : Builder → ℕ → Tag → List Binding → Builder
-opened_in s at tag inside = with_frame s (frame at tag inside) inside (filter_map hint_of (bindings_of tag.attributes))
+opened_in s at tag inside = with_frame (within s inside) (frame at tag inside) (filter_map hint_of (bindings_of tag.attributes))
 
 abbrev pub opened : Builder → ℕ → Tag → Builder
 opened s at tag = opened_in s at tag (bindings_of tag.attributes ++ bound_of s.outer s.scope)

@@ -11,9 +11,9 @@ use Rattle.xml_grammar.specs.Scopes.{same_qname}
 use Rattle.xml_grammar.specs.Nesting.{is_foreign}
 use Rattle.xmp_xml.specs.declared.builder.Builder.{Builder}
 use Rattle.xmp_xml.specs.declared.tags.Tagged.{Tagged}
-use Rattle.xmp_xml.specs.Building.{is_nil, passed, with_text, with_frame, closed, closed_if}
+use Rattle.xmp_xml.specs.Building.{is_nil, passed, with_text, within, with_frame, closed, closed_if}
 use Rattle.xmp_xml.specs.Document.{Fault, run_step}
-use Rattle.xmp_xml.specs.Tagging.{tagged}
+use Rattle.xmp_xml.specs.Tagging.{inside_of, tagged}
 
 abbrev pub declaration_step : Builder → ℕ → Option (List ℕ) → Result Builder Fault
 declaration_step s at encoding = if is_foreign (Declaration encoding) then Err (Encoding, at) else Ok (passed s)
@@ -39,7 +39,7 @@ tag_rule outside rooted depth t =
     else None
 
 abbrev pub begun : Builder → Tagged → Builder
-begun s t = closed_if t.empty (with_frame s t.frame t.scope t.hints)
+begun s t = closed_if t.empty (with_frame s t.frame t.hints)
 
 abbrev pub begun_unless : Builder → ℕ → Tagged → Option Rule → Result Builder Fault
 begun_unless s at t None = Ok (begun s t)
@@ -49,7 +49,7 @@ abbrev pub tagged_step : Builder → ℕ → Tagged → Result Builder Fault
 tagged_step s at t = begun_unless s at t (tag_rule (is_nil s.outer) (is_some s.root) (length s.outer) t)
 
 abbrev pub start_step : Builder → ℕ → Tag → Result Builder Fault
-start_step s at tag = tagged_step s at (tagged s at tag)
+start_step s at tag = tagged_step (within s (inside_of s tag)) at (tagged s at tag)
 
 abbrev pub step_of : Builder → ℕ → Token → Result Builder Fault
 step_of s at (tokens.Declaration encoding) = declaration_step s at encoding

@@ -51,11 +51,10 @@ abbrev pub frame_in : List Binding → ℕ → QName → List RawAttribute → �
 frame_in bound at name plain declared =
     record { at = at; spelled = name; name = element_name bound name; attributes = map (expanded bound) plain; declared = declared; children = [] }
 
--- the declarations in force inside the element come with it
+-- by the declarations in force inside the element
 abbrev pub tagged_with : List Binding → ℕ → Tag → Tagged
 tagged_with bound at tag = record {
   frame = frame at tag bound;
-  scope = bound;
   hints = filter_map hint_of (bindings_of tag.attributes);
   misbound = list_any is_misbound (bindings_of tag.attributes);
   unbound = has_unbound bound tag;
@@ -63,5 +62,9 @@ tagged_with bound at tag = record {
   empty = tag.empty;
 }
 
+-- what is in force inside the element of a tag
+abbrev pub inside_of : Builder → Tag → List Binding
+inside_of s tag = bindings_of tag.attributes ++ bound_of s.outer s.scope
+
 abbrev pub tagged : Builder → ℕ → Tag → Tagged
-tagged s at tag = tagged_with (bindings_of tag.attributes ++ bound_of s.outer s.scope) at tag
+tagged s at tag = tagged_with (inside_of s tag) at tag

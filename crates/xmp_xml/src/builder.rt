@@ -1,7 +1,7 @@
 //! The element tree, as far as it is read.
 
 ghost use Rattle.std.specs.Prelude.{◌≡◌, IfOk, OnOk};
-ghost use Rattle.xmp_xml.specs.Building.{start, document, bound_of, element, flushed, passed, with_text, unscoped, with_frame, rooted, nested, closed, closed_if};
+ghost use Rattle.xmp_xml.specs.Building.{start, document, bound_of, element, flushed, passed, with_text, within, with_frame, rooted, nested, closed, closed_if};
 
 use crate::pending::Pending;
 use crate::scopes::Scope;
@@ -104,32 +104,29 @@ pub fn add_text<'p>(alloc: Global, builder: &mut Builder<'p>, more: Text<'p>) ->
     Ok(())
 }
 
-/// Takes out the declarations in force for a tag.
-pub fn take_scope<'p>(alloc: Global, builder: &mut Builder<'p>) -> Result<Scope<'p>, Memory>
-    ensures builder { OnOk result (builder.new ≡ unscoped builder.old) }
-    ensures scope { IfOk result (λ s. s ≡ bound_of builder.old.outer builder.old.scope) }
+/// Puts the declarations that are in force for a tag in place: outside the root those of no tag.
+pub fn scope_tag(alloc: Global, builder: &mut Builder<'_>) -> Result<(), Memory>
+    ensures { OnOk result (builder.new ≡ within builder.old (bound_of builder.old.outer builder.old.scope)) }
 {
-    let scope = replace(&mut builder.scope, Scope::new(alloc));
     if builder.outer.is_empty() {
-        return Scope::predeclared(alloc);
+        let predeclared = Scope::predeclared(alloc)?;
+        let _none = replace(&mut builder.scope, predeclared);
     }
-    Ok(scope)
+    Ok(())
 }
 
-/// An element begins, with the declarations in force inside it.
+/// An element begins, inside which the builder's declarations are in force.
 pub fn begin<'p>(
     builder: &mut Builder<'p>,
     frame: Frame<'p>,
-    inside: Scope<'p>,
     declared: Sequence<Hint>,
 ) -> Result<(), Memory>
-    ensures { OnOk result (builder.new ≡ with_frame builder.old frame.entry inside.entry declared) }
+    ensures { OnOk result (builder.new ≡ with_frame builder.old frame.entry declared) }
 {
     flush(builder)?;
     let around = replace(&mut builder.top, frame);
     builder.outer.push(around)?;
     builder.hints.append(declared)?;
-    let _around = replace(&mut builder.scope, inside);
     builder.first = false;
     Ok(())
 }
@@ -166,9 +163,7 @@ fn end_child<'p>(alloc: Global, builder: &mut Builder<'p>, parent: Frame<'p>) ->
     ensures { OnOk result (builder.new ≡ nested builder.old parent.entry) }
 {
     let child = replace(&mut builder.top, parent);
-    let scope = replace(&mut builder.scope, Scope::new(alloc));
-    let around = scope.left(alloc, child.declared)?;
-    let _none = replace(&mut builder.scope, around);
+    builder.scope.leave(alloc, child.declared)?;
     builder
         .top
         .children

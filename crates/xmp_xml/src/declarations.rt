@@ -1,14 +1,15 @@
 //! The declarations of a tag.
 
-ghost use Rattle.std.specs.Prelude.{◌≡◌, [], ◌∷◌, ◌++◌, length, IfOk};
+ghost use Rattle.std.specs.Prelude.{◌≡◌, [], ◌∷◌, ◌++◌, length, IfOk, OnOk};
 ghost use Rattle.std.specs.List.{list_any, filter_map};
 ghost use Rattle.xml_grammar.specs.Scopes.{is_reserved, is_misbound_to, is_misbound};
 ghost use Rattle.xml_grammar.specs.Trees.{hint_of};
 ghost use Rattle.xmp_xml.specs.Bounds.{bindings_in};
+ghost use Rattle.xmp_xml.specs.Building.{is_nil};
 
 use std::alloc::Global;
 use std::marker::Model;
-use xmp_values::{Bytes, Hint, Memory, Sequence, Text, is_xml_space, is_xmlns_space};
+use xmp_values::{Bytes, Hint, Memory, Sequence, Text, is_xml_namespace, is_xmlns_namespace};
 
 /// A prefix, or none for the default namespace, and what is bound to it.
 #[derive(Drop)]
@@ -47,12 +48,17 @@ impl<'p> Declared<'p> {
     }
 
     /// One declaration more, at the end.
-    pub fn with(self, prefix: Option<Text<'p>>, space: Text<'p>) -> Result<Declared<'p>, Memory>
-        ensures { IfOk result (λ d. d ≡ self.entry ++ record { prefix = prefix.entry; space = space.entry } ∷ []) }
+    pub fn push(&mut self, prefix: Option<Text<'p>>, space: Text<'p>) -> Result<(), Memory>
+        ensures { OnOk result (self.new ≡ self.old ++ record { prefix = prefix.entry; space = space.entry } ∷ []) }
     {
-        let Declared { mut list } = self;
-        list.push(Bound { prefix, space })?;
-        Ok(Declared { list })
+        self.list.push(Bound { prefix, space })
+    }
+
+    #[tactic(auto, using(crate::proofs::Nests::nil_is))]
+    pub fn is_empty(&self) -> bool
+        ensures { result ≡ is_nil self.now }
+    {
+        self.list.len() == 0
     }
 
     pub fn len(&self) -> usize
@@ -99,33 +105,28 @@ fn hints_in(alloc: Global, list: &[Bound<'_>]) -> Result<Sequence<Hint>, Memory>
 {
     let mut hints = Sequence::new(alloc);
     for bound in list {
-        hints = with_hint(alloc, hints, bound)?;
+        add_hint(alloc, &mut hints, bound)?;
     }
     Ok(hints)
 }
 
-fn with_hint(
-    alloc: Global,
-    hints: Sequence<Hint>,
-    bound: &Bound<'_>,
-) -> Result<Sequence<Hint>, Memory>
-    ensures { IfOk result (λ hs. hs ≡ hints ++ filter_map hint_of (bindings_in (bound.now ∷ []))) }
+fn add_hint(alloc: Global, hints: &mut Sequence<Hint>, bound: &Bound<'_>) -> Result<(), Memory>
+    ensures { OnOk result (hints.new ≡ hints.old ++ filter_map hint_of (bindings_in (bound.now ∷ []))) }
 {
-    let mut more = hints;
     if let Some(prefix) = &bound.prefix {
-        more.push(Hint {
+        hints.push(Hint {
             space: Bytes::from_slice(alloc, bound.space.bytes())?,
             prefix: Bytes::from_slice(alloc, prefix.bytes())?,
         })?;
     }
-    Ok(more)
+    Ok(())
 }
 
 /// A namespace that belongs to a prefix of its own.
 fn is_reserved(space: &[u8]) -> bool
     ensures { result ≡ is_reserved space.now }
 {
-    is_xml_space(space) || is_xmlns_space(space)
+    is_xml_namespace(space) || is_xmlns_namespace(space)
 }
 
 /// Whether a declaration isn't allowed.
@@ -138,7 +139,7 @@ fn is_misbound(prefix: &Option<Text<'_>>, space: &[u8]) -> bool
             if prefix.bytes() == b"xmlns".as_slice() {
                 true
             } else if prefix.bytes() == b"xml".as_slice() {
-                !is_xml_space(space)
+                !is_xml_namespace(space)
             } else {
                 is_reserved(space) || space == b"".as_slice()
             }

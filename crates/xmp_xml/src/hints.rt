@@ -1,24 +1,23 @@
 //! The first declaration of each namespace.
 
-ghost use Rattle.std.specs.Prelude.{◌≡◌, ◌++◌, ◌∷◌, [], IfOk, if◌then◌else◌};
+ghost use Rattle.std.specs.Prelude.{◌≡◌, ◌++◌, ◌∷◌, [], IfOk, OnOk, if◌then◌else◌};
 ghost use Rattle.xml_grammar.specs.Trees.{first_hints};
 
 use std::alloc::Global;
 use xmp_values::{Hint, Memory, NameSet, Sequence};
 
-fn with_if(
+fn add_if(
     alloc: Global,
-    hints: Sequence<Hint>,
+    hints: &mut Sequence<Hint>,
     is_new: bool,
     hint: &Hint,
-) -> Result<Sequence<Hint>, Memory>
-    ensures { IfOk result (λ hs. hs ≡ (if is_new then hints ++ hint.now ∷ [] else hints)) }
+) -> Result<(), Memory>
+    ensures { OnOk result (hints.new ≡ (if is_new then hints.old ++ hint.now ∷ [] else hints.old)) }
 {
-    let mut more = hints;
     if is_new {
-        more.push(hint.again(alloc)?)?;
+        hints.push(hint.try_clone(alloc)?)?;
     }
-    Ok(more)
+    Ok(())
 }
 
 /// The first hint of each namespace, in their order. The time grows as n log n with their number.
@@ -30,7 +29,7 @@ pub fn first_hints(alloc: Global, all: &[Hint]) -> Result<Sequence<Hint>, Memory
     for hint in all {
         let space = hint.space.as_slice();
         let is_new = seen.insert(space, space)?;
-        firsts = with_if(alloc, firsts, is_new, hint)?;
+        add_if(alloc, &mut firsts, is_new, hint)?;
     }
     Ok(firsts)
 }

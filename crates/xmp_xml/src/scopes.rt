@@ -1,6 +1,6 @@
 //! The declarations in force.
 
-ghost use Rattle.std.specs.Prelude.{◌≡◌, ◌||◌, [], ◌∷◌, ◌++◌, ℕ, List, Option, not, length, drop, map, is_some, IfOk, if◌then◌else◌};
+ghost use Rattle.std.specs.Prelude.{◌≡◌, ◌||◌, [], ◌∷◌, ◌++◌, ℕ, List, Option, not, length, drop, map, is_some, IfOk, OnOk, if◌then◌else◌};
 ghost use Rattle.std.specs.Option.{option_copied};
 ghost use Rattle.xml_grammar.specs.Scopes.{Binding, predeclared, same_prefix, bound_to, expanded};
 ghost use Rattle.xml_grammar.specs.Nesting.{has_twice};
@@ -14,6 +14,7 @@ use crate::places::Places;
 use crate::stack::Stack;
 use std::alloc::Global;
 use std::marker::Model;
+use std::mem::replace;
 use xml_grammar::RawAttribute;
 use xmp_values::{Memory, NameSet, Text};
 
@@ -129,7 +130,7 @@ impl<'p> Scope<'p> {
     }
 
     /// Without the innermost declarations.
-    pub fn left(self, alloc: Global, count: usize) -> Result<Scope<'p>, Memory>
+    fn left(self, alloc: Global, count: usize) -> Result<Scope<'p>, Memory>
         ensures { IfOk result (λ s. s ≡ drop count self.entry) }
     {
         let mut scope = self;
@@ -137,6 +138,17 @@ impl<'p> Scope<'p> {
             scope = scope.without_last(alloc)?;
         }
         Ok(scope)
+    }
+
+    /// The innermost declarations go. Where memory runs out none is left.
+    pub fn leave(&mut self, alloc: Global, count: usize) -> Result<(), Memory>
+        ensures { OnOk result (self.new ≡ drop count self.old) }
+    {
+        if count > 0 {
+            let scope = replace(self, Scope::new(alloc));
+            let _none = replace(self, scope.left(alloc, count)?);
+        }
+        Ok(())
     }
 
     fn len(&self) -> usize
@@ -156,7 +168,7 @@ impl<'p> Scope<'p> {
     }
 
     /// With those of a tag, and whether they bind a prefix twice.
-    pub fn entered(self, alloc: Global, declared: Declared<'p>) -> Result<(Scope<'p>, bool), Memory>
+    fn entered(self, alloc: Global, declared: Declared<'p>) -> Result<(Scope<'p>, bool), Memory>
         ensures scope { IfOk result (λ x. x.0 ≡ declared.entry ++ self.entry) }
         ensures twice { IfOk result (λ x. x.1 ≡ has_twice same_binding declared.entry) }
     {
@@ -169,6 +181,21 @@ impl<'p> Scope<'p> {
             scope = scope.with(alloc, prefix, space)?;
         }
         Ok((scope, twice))
+    }
+
+    /// The declarations of a tag come, and whether they bind a prefix twice. Where memory runs out
+    /// none is left.
+    pub fn enter(&mut self, alloc: Global, declared: Declared<'p>) -> Result<bool, Memory>
+        ensures scope { OnOk result (self.new ≡ declared.entry ++ self.old) }
+        ensures twice { IfOk result (λ twice. twice ≡ has_twice same_binding declared.entry) }
+    {
+        if declared.is_empty() {
+            return Ok(false);
+        }
+        let around = replace(self, Scope::new(alloc));
+        let (inside, twice) = around.entered(alloc, declared)?;
+        let _none = replace(self, inside);
+        Ok(twice)
     }
 
     /// What is bound to a prefix.

@@ -9,7 +9,7 @@ ghost use Rattle.xmp_xml.specs.Building.{is_nil};
 ghost use Rattle.xmp_xml.specs.Document.{run_step};
 ghost use Rattle.xmp_xml.specs.Steps.{declaration_step, text_step, end_step, tag_rule, begun, tagged_step, start_step, step_of, with_run};
 
-use crate::builder::{Builder, add_text, begin, end, end_if, pass, take_scope};
+use crate::builder::{Builder, add_text, begin, end, end_if, pass, scope_tag};
 use crate::pending::char_text;
 use crate::tags::{Tagged, read_tag};
 use std::alloc::Global;
@@ -128,14 +128,13 @@ fn begun<'p>(alloc: Global, builder: &mut Builder<'p>, tagged: Tagged<'p>) -> Re
 {
     let Tagged {
         frame,
-        scope,
         hints,
         misbound: _,
         unbound: _,
         twice: _,
         empty,
     } = tagged;
-    begin(builder, frame, scope, hints)?;
+    begin(builder, frame, hints)?;
     end_if(alloc, empty, builder)
 }
 
@@ -161,8 +160,8 @@ fn start_step<'p>(
 ) -> Result<(), PlaceStop>
     ensures { Makes place_of result builder.new (start_step builder.old at tag.entry) }
 {
-    let scope = take_scope(alloc, builder)?;
-    let tagged = read_tag(alloc, scope, at, tag)?;
+    scope_tag(alloc, builder)?;
+    let tagged = read_tag(alloc, &mut builder.scope, at, tag)?;
     tagged_step(alloc, builder, at, tagged)
 }
 

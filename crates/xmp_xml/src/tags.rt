@@ -1,6 +1,6 @@
 //! A tag with its declarations apart and its names expanded.
 
-ghost use Rattle.std.specs.Prelude.{◌≡◌, ◌++◌, ◌||◌, map, IfOk};
+ghost use Rattle.std.specs.Prelude.{◌≡◌, ◌++◌, ◌||◌, map, IfOk, OnOk};
 ghost use Rattle.std.specs.List.{list_any};
 ghost use Rattle.xml_grammar.specs.Scopes.{bindings_of, bound_to, or_nothing, attribute_space, expanded, is_unbound};
 ghost use Rattle.xml_grammar.specs.Nesting.{has_twice};
@@ -24,8 +24,6 @@ pub struct Parts<'p> {
 #[derive(Drop)]
 pub struct Tagged<'p> {
     pub frame: Frame<'p>,
-    /// The declarations in force inside the element.
-    pub scope: Scope<'p>,
     pub hints: Sequence<Hint>,
     /// A declaration isn't allowed.
     pub misbound: bool,
@@ -36,57 +34,48 @@ pub struct Tagged<'p> {
     pub empty: bool,
 }
 
-fn with_declaration<'p>(
-    parts: Parts<'p>,
+fn add_declaration<'p>(
+    parts: &mut Parts<'p>,
     prefix: Option<Text<'p>>,
     space: Text<'p>,
-) -> Result<Parts<'p>, Memory>
-    ensures { IfOk result (λ x. x ≡ with_declaration parts.entry prefix.entry space.entry) }
+) -> Result<(), Memory>
+    ensures { OnOk result (parts.new ≡ with_declaration parts.old prefix.entry space.entry) }
 {
-    let Parts { declared, plain } = parts;
-    Ok(Parts {
-        declared: declared.with(prefix, space)?,
-        plain,
-    })
+    parts.declared.push(prefix, space)
 }
 
-fn with_plain<'p>(parts: Parts<'p>, attribute: RawAttribute<'p>) -> Result<Parts<'p>, Memory>
-    ensures { IfOk result (λ x. x ≡ with_plain parts.entry attribute.entry) }
+fn add_plain<'p>(parts: &mut Parts<'p>, attribute: RawAttribute<'p>) -> Result<(), Memory>
+    ensures { OnOk result (parts.new ≡ with_plain parts.old attribute.entry) }
 {
-    let Parts {
-        declared,
-        mut plain,
-    } = parts;
-    plain.push(attribute)?;
-    Ok(Parts { declared, plain })
+    parts.plain.push(attribute)
 }
 
 /// One attribute more.
-fn with_attribute<'p>(parts: Parts<'p>, attribute: RawAttribute<'p>) -> Result<Parts<'p>, Memory>
-    ensures { IfOk result (λ x. x ≡ with_attribute parts.entry attribute.entry) }
+fn add_attribute<'p>(parts: &mut Parts<'p>, attribute: RawAttribute<'p>) -> Result<(), Memory>
+    ensures { OnOk result (parts.new ≡ with_attribute parts.old attribute.entry) }
 {
     let RawAttribute { name, value } = attribute;
     let QName { prefix, local } = name;
     match prefix {
         None => {
             if local.bytes() == b"xmlns".as_slice() {
-                return with_declaration(parts, None, value);
+                return add_declaration(parts, None, value);
             }
             let name = QName {
                 prefix: None,
                 local,
             };
-            with_plain(parts, RawAttribute { name, value })
+            add_plain(parts, RawAttribute { name, value })
         }
         Some(prefix) => {
             if prefix.bytes() == b"xmlns".as_slice() {
-                return with_declaration(parts, Some(local), value);
+                return add_declaration(parts, Some(local), value);
             }
             let name = QName {
                 prefix: Some(prefix),
                 local,
             };
-            with_plain(parts, RawAttribute { name, value })
+            add_plain(parts, RawAttribute { name, value })
         }
     }
 }
@@ -99,7 +88,7 @@ fn divided<'p>(alloc: Global, attributes: Sequence<RawAttribute<'p>>) -> Result<
         plain: Sequence::new(alloc),
     };
     for attribute in attributes.into_vec() {
-        parts = with_attribute(parts, attribute)?;
+        add_attribute(&mut parts, attribute)?;
     }
     Ok(parts)
 }
@@ -125,7 +114,7 @@ fn space_of<'p>(
     let Some(space) = scope.bound_to(prefix) else {
         return Ok(Text::raw(b"".as_slice()));
     };
-    space.again(alloc)
+    space.try_clone(alloc)
 }
 
 fn attribute_space<'p>(
@@ -221,7 +210,7 @@ fn frame_in<'p>(
         at,
         name: Name {
             space: space_of(alloc, scope, &name.prefix)?,
-            local: name.local.again(alloc)?,
+            local: name.local.try_clone(alloc)?,
         },
         spelled: name,
         attributes: expanded_all(alloc, scope, plain)?,
@@ -230,14 +219,15 @@ fn frame_in<'p>(
     })
 }
 
-/// A tag with its names expanded, and what is wrong with it; `around` is in force for the tag.
+/// A tag with its names expanded, and what is wrong with it. Its declarations come into force.
 pub fn read_tag<'p>(
     alloc: Global,
-    around: Scope<'p>,
+    scope: &mut Scope<'p>,
     at: u64,
     tag: Tag<'p>,
 ) -> Result<Tagged<'p>, Memory>
-    ensures { IfOk result (λ t. t ≡ tagged_with (bindings_of tag.entry.attributes ++ around.entry) at tag.entry) }
+    ensures tag { IfOk result (λ t. t ≡ tagged_with (bindings_of tag.entry.attributes ++ scope.old) at tag.entry) }
+    ensures scope { OnOk result (scope.new ≡ bindings_of tag.entry.attributes ++ scope.old) }
 {
     let Tag {
         name,
@@ -248,13 +238,12 @@ pub fn read_tag<'p>(
     let hints = declared.hints(alloc)?;
     let misbound = declared.has_misbound();
     let count = declared.len();
-    let (scope, again) = around.entered(alloc, declared)?;
-    let unbound = is_unbound(&scope, &name, plain.as_slice());
-    let twice = is_twice(alloc, &scope, again, plain.as_slice())?;
-    let frame = frame_in(alloc, &scope, at, name, plain, count)?;
+    let again = scope.enter(alloc, declared)?;
+    let unbound = is_unbound(scope, &name, plain.as_slice());
+    let twice = is_twice(alloc, scope, again, plain.as_slice())?;
+    let frame = frame_in(alloc, scope, at, name, plain, count)?;
     Ok(Tagged {
         frame,
-        scope,
         hints,
         misbound,
         unbound,

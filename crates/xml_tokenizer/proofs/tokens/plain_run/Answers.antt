@@ -10,6 +10,12 @@ returns-then-not-inside-clause-front c = c.plain_text.ensures.front ∙ ap encod
 pub returns-then-not-inside-clause-rest : goal.returns-then-not-inside-clause-rest
 returns-then-not-inside-clause-rest c = c.plain_text.ensures.rest ∙ sym (outside_run c.args.inside (chars c.args.text.now) c.if-not-inside.true).1
 
+pub returns-then-lacks_bracket-clause-front : goal.returns-then-lacks_bracket-clause-front
+returns-then-lacks_bracket-clause-front c = c.plain_text.ensures.front ∙ ap encode_utf8_all (sym (whole_run c.args.inside c.args.text.now c.plain_text.result.0.now c.if-not-inside.false c.utf8.text c.plain_text.ensures.front (c.lacks_bracket.ensures c.if-lacks_bracket.true)).0)
+
+pub returns-then-lacks_bracket-clause-rest : goal.returns-then-lacks_bracket-clause-rest
+returns-then-lacks_bracket-clause-rest c = c.plain_text.ensures.rest ∙ sym (whole_run c.args.inside c.args.text.now c.plain_text.result.0.now c.if-not-inside.false c.utf8.text c.plain_text.ensures.front (c.lacks_bracket.ensures c.if-lacks_bracket.true)).1
+
 pub split_at-requires : goal.split_at-requires
 split_at-requires c =
     let v : IsUtf8 c.in-Some.front.now = search rules in

@@ -8,6 +8,6 @@ use Rattle.xmp_xml.proofs.declarations.hints_in.Goals as goal
 
 pub loop-bound-preserved : goal.loop-bound-preserved
 loop-bound-preserved c =
-    c.in_ok-hints.ensures
+    c.in_ok-add_hint.ensures
     ∙ ap (λ (hs : List Hint). hs ++ filter_map hint_of (bindings_in (c.bound-item.result ∷ []))) c.loop-bound.invariant
     ∙ hints_next c.args.list.now c.loop-bound.bound-index c.bound-item.result c.loop-bound-test.true c.bound-item.is

@@ -18,6 +18,6 @@ loop-hint-preserved c =
     let keyed : key ≡ named h.space h.space = ap (λ (s : List ℕ). named s s) c.as_slice-space.ensures in
     let next = take_here c.args.all.now c.loop-hint.hint-index h c.loop-hint-test.true c.hint-item.is in
     record {
-      firsts = c.in_ok-firsts.ensures ∙ first_more c.loop-hint.seen before c.loop-hint.firsts h key c.in_ok-is_new.is_new keyed c.loop-hint.invariant.sees c.loop-hint.invariant.firsts c.in_ok-is_new.ensures.added ∙ ap first_hints next;
+      firsts = c.in_ok-add_if.ensures ∙ first_more c.loop-hint.seen before c.loop-hint.firsts h key c.in_ok-is_new.is_new keyed c.loop-hint.invariant.sees c.loop-hint.invariant.firsts c.in_ok-is_new.ensures.added ∙ ap first_hints next;
       sees = subst (Sees c.insert.new.self) next (sees_more c.loop-hint.seen c.insert.new.self before h key keyed c.loop-hint.invariant.sees c.in_ok-is_new.ensures.holds);
     }

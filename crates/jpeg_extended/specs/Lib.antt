@@ -1,0 +1,5 @@
+pub mod Tiling
+pub mod Portions
+pub mod Heads
+pub mod Joined
+pub mod Written

@@ -1,0 +1,47 @@
+-- What is kept of a file.
+use Rattle.std.specs.Prelude.{ℕ, List, [], length, Option, Some}
+use Rattle.xmp_files.specs.declared.kinds.Kind.{Kind}
+use Rattle.xmp_files.specs.declared.kinds.Kind.TheVariants.{Sidecar}
+use Rattle.xmp_files.specs.declared.held.Need.{Need}
+
+-- bytes, and the place in the file where they stand
+pub record Piece : Type 0 where
+  pub at : ℕ
+  pub bytes : List ℕ
+
+-- A block of Exif or of resources: its place and its length, and its bytes where it is within the limit of a block.
+pub record Block : Type 0 where
+  pub at : ℕ
+  pub size : ℕ
+  pub bytes : Option (List ℕ)
+
+-- How a file is made up. Of the containers that are built, a sidecar is nothing but its packet; the regions of a JPEG
+-- file and the directories of a TIFF file are further cases.
+pub data Container : Type 0 where
+  Text : Container
+
+pub record Kept : Type 0 where
+  -- what was asked for
+  pub need : Need
+  pub kind : Kind
+  -- the length of the file
+  pub size : ℕ
+  -- the payload of the main packet, if there is one
+  pub payload : Option Piece
+  pub container : Container
+  -- the payloads of the portions of an extended text, in the order of the file
+  pub portions : List Piece
+  -- the blocks of other metadata, where they were asked for
+  pub blocks : List Block
+
+-- of a sidecar, whose payload is the whole file
+abbrev pub sidecar : Need → List ℕ → Kept
+sidecar need bytes = record {
+  need = need;
+  kind = Sidecar;
+  size = length bytes;
+  payload = Some (record { at = 0; bytes = bytes });
+  container = Text;
+  portions = [];
+  blocks = [];
+}

@@ -1,0 +1,32 @@
+-- The bytes of a file that aren't read.
+use Rattle.std.specs.Prelude.{◌≡◌, ◌⊎◌, ℕ, ◌+◌, ◌≤◌, ◌<◌, List, [], ◌++◌, length, All, Option, None, Some, Ok}
+use Rattle.std.specs.Option.{unwrap_or}
+use Rattle.std.specs.FinMap.{get}
+use Rattle.xmp_base.specs.Device.{DeskState, Moved, Told}
+use Rattle.xmp_files.specs.declared.kinds.Kind.{Kind}
+use Rattle.xmp_files.specs.declared.held.Need.{Need}
+use Rattle.xmp_files.specs.Faults.{packet_limit}
+use Rattle.xmp_files.specs.Keeping.{Piece, Container, Text, Kept}
+use Rattle.xmp_files.specs.Loading.{kind_of_file, IsContained}
+
+-- the places of pictures alone: none in a file that is nothing but its packet
+abbrev pub IsPicture : Container → ℕ → Type 0
+IsPicture Text place = ⊥
+
+-- the places of a payload that is over its limit
+abbrev pub IsOverlong : Option Piece → ℕ → Type 0
+IsOverlong None place = ⊥
+IsOverlong (Some payload) place = (packet_limit < length payload.bytes) × (payload.at ≤ place) × (place < payload.at + length payload.bytes)
+
+-- a read covers no such place, but for the first 16 bytes of a file, which tell its kind
+abbrev pub Spares : Kept → Moved → Type 0
+Spares kept m = (place : ℕ) → 16 ≤ place → m.1 ≤ place → place < m.1 + m.2 → (IsPicture kept.container place ⊎ IsOverlong kept.payload place) → ⊥
+
+-- the container of FILE has no fault
+abbrev pub HasContainer : Need → Option (List ℕ) → Kept → Type 0
+HasContainer need file kept = (kind : Kind) × (kind_of_file file ≡ Ok kind) × IsContained need kind (unwrap_or file []) (Ok kept)
+
+-- The reads of this name between two states spare these bytes, where its container has no fault.
+abbrev pub Spared : Need → DeskState → DeskState → List ℕ → Type 0
+Spared need s t name = Told s.files (λ files. Told s.reads (λ reads. (more : List Moved) × (t.reads ≡ Some (reads ++ more))
+    × All (λ m. (kept : Kept) → HasContainer need (get files name) kept → m.0 ≡ name → Spares kept m) more))

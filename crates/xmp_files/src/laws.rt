@@ -1,0 +1,24 @@
+//! Laws over the definitions: functions that do nothing, each with a law as its contract.
+ghost use Rattle.std.specs.Prelude.{◌≡◌, Option, List, ℕ};
+ghost use Rattle.std.specs.declared.result.Result.{Result};
+ghost use Rattle.xmp_values.specs.declared.faults.Fault.{Fault};
+ghost use Rattle.xmp_files.specs.declared.held.Need.{Need};
+ghost use Rattle.xmp_files.specs.declared.opening.Opened.{Opened};
+ghost use Rattle.xmp_files.specs.Keeping.{Kept};
+ghost use Rattle.xmp_files.specs.Loading.{IsLoaded};
+ghost use Rattle.xmp_files.specs.Opening.{IsOpened, Holds};
+
+/// What is kept of a file is one thing, or its first fault is one.
+pub fn one_kept()
+    ensures { (need : Need) (file : Option (List ℕ)) (a b : Result Kept Fault) → IsLoaded need file a → IsLoaded need file b → a ≡ b }
+{}
+
+/// So is what it means.
+pub fn one_opened()
+    ensures { (kept : Kept) (a b : Result Opened Fault) → IsOpened kept a → IsOpened kept b → a ≡ b }
+{}
+
+/// And both together.
+pub fn one_meaning()
+    ensures { (file : Option (List ℕ)) (a b : Result Opened Fault) → Holds file a → Holds file b → a ≡ b }
+{}
