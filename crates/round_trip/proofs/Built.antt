@@ -2,6 +2,7 @@
 use Rattle.std.proofs.Common.{◌≡◌, ℕ, ◌+◌, ◌≤◌, List, [], ◌∷◌, ◌++◌, length, map, Option, Some, refl, ap, sym, ◌∙◌, append_assoc, append-nil, true}
 use Rattle.std.specs.Prelude.{codes, is_none, encode_utf8_all}
 use Rattle.std.specs.List.{flat_map, cons_option}
+use Rattle.xmp_values.specs.declared.hints.Hint.{Hint}
 use Rattle.xmp_values.specs.declared.text.Name.{Name}
 use Rattle.xml_grammar.specs.declared.elements.Attribute.{Attribute}
 use Rattle.xml_grammar.specs.declared.elements.Child.{Child, Child-F}
@@ -19,7 +20,7 @@ use Rattle.xmp_write.specs.Text.{element_text, empty_text, lang_text}
 use Rattle.round_trip.specs.Elements.{IsElement, Mark}
 use Rattle.std.proofs.Math.Utf8.{scalars}
 use Rattle.round_trip.proofs.Marked.{row}
-use Rattle.round_trip.proofs.Spelt.{inside, IsSpelt, Anything, Tagged}
+use Rattle.round_trip.proofs.Spelt.{inside, IsSpeltWith, IsSpelt, Anything, Tagged}
 use Rattle.round_trip.proofs.Tags.{level_of, IsSpelledTag, element_spelt, empty_spelt}
 use Rattle.round_trip.proofs.Marks.{raws, mark_text, IsTag, IsMark, marks_spelled, IsBase, row_is, declares_none, good_tag}
 
@@ -69,9 +70,9 @@ abbrev pub qname : (bs : List Binding) (name : Name) (bytes : List ℕ) → IsTa
 qname bs name bytes h = record { prefix = Some h.prefix; local = name.local }
 
 -- the events of a part are all that matters
-pub spelt_same : (Before : List ℕ → Type 0) (s t : Nest) (at : ℕ) (bytes : List ℕ) (f g : List Event → List Event) → ((es : List Event) → f es ≡ g es)
-    → IsSpelt Before s at bytes f t → IsSpelt Before s at bytes g t
-spelt_same Before s t at bytes f g same h = record {
+pub spelt_same : (hs : List Hint) (Before : List ℕ → Type 0) (s t : Nest) (at : ℕ) (bytes : List ℕ) (f g : List Event → List Event) → ((es : List Event) → f es ≡ g es)
+    → IsSpeltWith hs Before s at bytes f t → IsSpeltWith hs Before s at bytes g t
+spelt_same hs Before s t at bytes f g same h = record {
   chars = h.chars;
   utf8 = h.utf8;
   scalar = h.scalar;
@@ -79,10 +80,11 @@ spelt_same Before s t at bytes f g same h = record {
   read = h.read;
   ends = h.ends;
   means = λ more. h.means more ∙ same (events_of t more);
+  hinted = h.hinted;
 }
 
 pub spelt_before : (s t : Nest) (at : ℕ) (bytes : List ℕ) (f : List Event → List Event) → IsSpelt Anything s at bytes f t → IsSpelt Tagged s at bytes f t
-spelt_before s t at bytes f h = record { chars = h.chars; utf8 = h.utf8; scalar = h.scalar; pieces = h.pieces; read = λ left tagged. h.read left tt; ends = h.ends; means = h.means }
+spelt_before s t at bytes f h = record { chars = h.chars; utf8 = h.utf8; scalar = h.scalar; pieces = h.pieces; read = λ left tagged. h.read left tt; ends = h.ends; means = h.means; hinted = h.hinted }
 
 module _ (l : Level) (ls : List Level) (name : Name) (bytes : List ℕ) (lang : Option (List ℕ)) (mark : Mark) (h : IsTagName l.bound name bytes) (base : IsBase l.bound)
     (tag : IsTag lang) (marked : IsMark mark) (low : length (l ∷ ls) ≤ 99) where
@@ -130,7 +132,7 @@ module _ (l : Level) (ls : List Level) (name : Name) (bytes : List ℕ) (lang : 
       → IsSpelt Anything (inside (l ∷ ls)) at (element_text bytes (lang_text lang ++ mark_text mark) inner)
       (λ es. events (child.Element (element at name (row lang mark) cs)) ++ es) (inside (l ∷ ls))
   built at cs inner f k same =
-      spelt_same Anything (inside (l ∷ ls)) (inside (l ∷ ls)) at (element_text bytes (lang_text lang ++ mark_text mark) inner)
+      spelt_same [] Anything (inside (l ∷ ls)) (inside (l ∷ ls)) at (element_text bytes (lang_text lang ++ mark_text mark) inner)
       (λ es. Opens at (element_name (bindings_of (raws lang mark) ++ l.bound) q) (expanded_attributes (bindings_of (raws lang mark) ++ l.bound) (raws lang mark)) ∷ f (Closes ∷ es))
       (λ es. events (child.Element (element at name (row lang mark) cs)) ++ es)
       (λ es. opened at (f (Closes ∷ es)) ∙ ap (λ (xs : List Event). Opens at name (row lang mark) ∷ xs) (same es) ∙ shown at cs es)
@@ -139,7 +141,7 @@ module _ (l : Level) (ls : List Level) (name : Name) (bytes : List ℕ) (lang : 
   pub built_empty : (at : ℕ) → IsSpelt Anything (inside (l ∷ ls)) at (empty_text bytes (lang_text lang ++ mark_text mark))
       (λ es. events (child.Element (element at name (row lang mark) [])) ++ es) (inside (l ∷ ls))
   built_empty at =
-      spelt_same Anything (inside (l ∷ ls)) (inside (l ∷ ls)) at (empty_text bytes (lang_text lang ++ mark_text mark))
+      spelt_same [] Anything (inside (l ∷ ls)) (inside (l ∷ ls)) at (empty_text bytes (lang_text lang ++ mark_text mark))
       (λ es. Opens at (element_name (bindings_of (raws lang mark) ++ l.bound) q) (expanded_attributes (bindings_of (raws lang mark) ++ l.bound) (raws lang mark)) ∷ Closes ∷ es)
       (λ es. events (child.Element (element at name (row lang mark) [])) ++ es)
       (λ es. opened at (Closes ∷ es) ∙ shown at [] es)

@@ -1,13 +1,18 @@
 -- The prefixes of a text may be declared in one tag.
-use Rattle.std.proofs.Common.{◌≡◌, ◌≢◌, ℕ, suc, false, List, [], ◌∷◌, get_or, ap, sym, ◌∙◌, refl, arith}
-use Rattle.std.specs.Prelude.{All, AllPairs, codes}
+use Rattle.std.proofs.Common.{◌≡◌, ◌≢◌, ℕ, suc, false, not, List, [], ◌∷◌, length, get_or, ap, sym, ◌∙◌, refl, arith}
+use Rattle.std.specs.Prelude.{All, AllPairs, codes, filter}
 use Rattle.std.specs.Str.{bytes_eq}
-use Rattle.std.proofs.lemmas.Bool.{false_from_ne_true}
-use Rattle.std.proofs.lemmas.List.Elements.{All-head, All-tail}
+use Rattle.std.proofs.lemmas.Bool.{false_from_ne_true, not_from_false}
+use Rattle.std.proofs.lemmas.List.Elements.{All-cons, All-head, All-tail}
+use Rattle.std.proofs.lemmas.List.Kept.{AllPairs-cons}
+use Rattle.xmp_values.specs.Spaces.{meta_space, rdf_space}
 use Rattle.xmp_values.specs.declared.hints.Hint.{Hint}
-use Rattle.known_prefixes.specs.Prefixes.{begins_xml}
+use Rattle.known_prefixes.specs.Prefixes.{is_fixed, begins_xml}
 use Rattle.xml_grammar.specs.Scopes.{xml_space, xmlns_space, is_misbound}
 use Rattle.xml_grammar.proofs.SoundPieces.{same_bytes}
+use Rattle.xml_grammar.specs.Trees.{first_hints}
+use Rattle.rdf_soundness.proofs.Lists.{filter_all}
+use Rattle.round_trip.specs.Law.{meta_hint, rdf_hint, declared_hints}
 use Rattle.xmp_write.specs.PrefixLaws.{IsDeclared, AreDeclared}
 use Rattle.round_trip.proofs.Premises.{bound_by, IsDeclarable, AreDeclarable}
 
@@ -44,3 +49,30 @@ all_declarable (h ∷ hs) each apart = (
 
 pub are_declarable : (ps : List Hint) → AreDeclared ps → AreDeclarable ps
 are_declarable ps h = all_declarable ps h.each h.prefixes_apart
+
+-- ---- each namespace is declared once
+
+meta_apart : (space : List ℕ) → is_fixed space ≡ false → meta_space ≢ space
+unfolding meta_space rdf_space xml_space
+meta_apart space unfixed same = let wrong = ap is_fixed same ∙ unfixed in absurd cc
+
+rdf_apart : (space : List ℕ) → is_fixed space ≡ false → rdf_space ≢ space
+unfolding meta_space rdf_space xml_space
+rdf_apart space unfixed same = let wrong = ap is_fixed same ∙ unfixed in absurd cc
+
+meta_not_rdf : meta_space ≢ rdf_space
+unfolding meta_space rdf_space
+meta_not_rdf same = let long = ap length same in omega arith
+
+pub hints_apart : (ps : List Hint) → AreDeclared ps → AllPairs (λ g h. g.space ≢ h.space) (declared_hints ps)
+hints_apart ps h =
+    AllPairs-cons (λ (g h : Hint). g.space ≢ h.space) meta_hint (rdf_hint ∷ ps)
+    (All-cons (λ (h : Hint). meta_space ≢ h.space) rdf_hint ps meta_not_rdf (λ k d within. meta_apart (get_or ps k d).space (h.each k d within).unfixed))
+    (AllPairs-cons (λ (g h : Hint). g.space ≢ h.space) rdf_hint ps (λ k d within. rdf_apart (get_or ps k d).space (h.each k d within).unfixed) h.spaces_apart)
+
+pub all_first : (hs : List Hint) → AllPairs (λ g h. g.space ≢ h.space) hs → first_hints hs ≡ hs
+all_first [] apart = refl
+all_first (h ∷ hs) apart =
+    ap (λ (gs : List Hint). h ∷ filter (λ g. not (bytes_eq h.space g.space)) gs) (all_first hs (λ i j d lt within. apart (suc i) (suc j) d (omega arith) (omega arith)))
+    ∙ ap (λ (gs : List Hint). h ∷ gs)
+    (filter_all (λ g. not (bytes_eq h.space g.space)) hs (λ k d within. not_from_false _ (bytes_differ h.space (get_or hs k d).space (apart 0 (suc k) d (omega arith) (omega arith)))))

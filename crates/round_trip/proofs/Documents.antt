@@ -11,7 +11,7 @@ use Rattle.xml_grammar.specs.declared.elements.Child.TheVariants as child
 use Rattle.xml_grammar.specs.declared.elements.Element.{Element}
 use Rattle.xml_grammar.specs.Pieces.{Character}
 use Rattle.xml_grammar.specs.Nesting.{Nest, start, broken}
-use Rattle.xml_grammar.specs.Trees.{events, events_of, hints_of}
+use Rattle.xml_grammar.specs.Trees.{events, events_of, first_hints}
 use Rattle.xml_grammar.specs.Documents.{mark_width, behind_mark, Reads, IsDocument}
 use Rattle.round_trip.proofs.Packets.{is_pad, header_chars}
 use Rattle.xmp_tree.specs.Parts.{Parts}
@@ -22,10 +22,10 @@ use Rattle.xmp_write.specs.Text.{tree_text, written_text, canonical_text}
 use Rattle.xmp_write.specs.Written.{written_members}
 use Rattle.xmp_write.specs.WrittenPackets.{pad, pad_byte, trailer, least_len, packet, canonical_packet}
 use Rattle.xmp_write.proofs.PrefixLaws.{prefix_law}
-use Rattle.round_trip.specs.Law.{MayWrite, HasWriting, WrittenDocuments}
-use Rattle.round_trip.proofs.Declarable.{are_declarable}
+use Rattle.round_trip.specs.Law.{MayWrite, HasWriting, WrittenDocuments, declared_hints}
+use Rattle.round_trip.proofs.Declarable.{are_declarable, hints_apart, all_first}
 use Rattle.round_trip.proofs.WrittenMembers.{written_properties}
-use Rattle.round_trip.proofs.Spelt.{IsSpelt, Anything, spelt_then, spelt_none, spelt_one}
+use Rattle.round_trip.proofs.Spelt.{IsSpeltWith, IsSpelt, Anything, spelt_both, spelt_then, spelt_none, spelt_one}
 use Rattle.round_trip.proofs.Frames.{outside}
 use Rattle.round_trip.proofs.Texts.{MadeTree, tree_made}
 use Rattle.round_trip.proofs.Packets.{header_spelt, trailer_spelt}
@@ -36,9 +36,9 @@ around_root rooted = record { first = false; levels = []; rooted = rooted }
 pad_one : (rooted : Bool) (at c : ℕ) → (c ≡ 0x20) ⊎ (c ≡ 0xA) → IsSpelt Anything (around_root rooted) at (c ∷ []) (λ es. es) (around_root rooted)
 unfolding broken is_char is_blank encode
 pad_one rooted at c (inl is) = subst (λ (c : ℕ). IsSpelt Anything (around_root rooted) at (c ∷ []) (λ es. es) (around_root rooted)) (sym is)
-    (spelt_one (around_root rooted) at (Character 0x20) (codes " ") (λ es. es) (λ left. record { spelled = (refl, λ e. omega arith, λ e. omega arith, λ e. omega arith, refl); fits = λ mode is. absurd (omega arith) }) refl refl (λ more. refl))
+    (spelt_one [] (around_root rooted) at (Character 0x20) (codes " ") (λ es. es) (λ left. record { spelled = (refl, λ e. omega arith, λ e. omega arith, λ e. omega arith, refl); fits = λ mode is. absurd (omega arith) }) refl refl refl (λ more. refl))
 pad_one rooted at c (inr is) = subst (λ (c : ℕ). IsSpelt Anything (around_root rooted) at (c ∷ []) (λ es. es) (around_root rooted)) (sym is)
-    (spelt_one (around_root rooted) at (Character 0xA) (codes "\n") (λ es. es) (λ left. record { spelled = (refl, λ e. omega arith, λ e. omega arith, λ e. omega arith, refl); fits = λ mode is. absurd (omega arith) }) refl refl (λ more. refl))
+    (spelt_one [] (around_root rooted) at (Character 0xA) (codes "\n") (λ es. es) (λ left. record { spelled = (refl, λ e. omega arith, λ e. omega arith, λ e. omega arith, refl); fits = λ mode is. absurd (omega arith) }) refl refl refl (λ more. refl))
 
 each_pads : (many : ℕ) (is : List ℕ) → list_all is_pad (map (pad_byte many) is) ≡ true
 each_pads many [] = refl
@@ -71,25 +71,23 @@ no_mark (c ∷ cs) rest is =
     subst (λ (c : ℕ). (mark_width (c ∷ cs) ≡ 0) × (behind_mark (c ∷ cs) ≡ c ∷ cs)) (sym one) (refl, refl)
 
 -- a text from `<` on that pieces spell to its end, and whose events are those of an element, has that document
-document_of : (text rest : List ℕ) (root : Element) → text ≡ 0x3C ∷ rest → IsSpelt Anything start 0 text (λ es. events (child.Element root) ++ es) (around_root true)
-    → (hints : List Hint) × IsDocument text root hints
-document_of text rest root first h =
+document_of : (hs : List Hint) (text rest : List ℕ) (root : Element) → text ≡ 0x3C ∷ rest → IsSpeltWith hs Anything start 0 text (λ es. events (child.Element root) ++ es) (around_root true)
+    → first_hints hs ≡ hs → IsDocument text root hs
+document_of hs text rest root first h apart =
     let read : chars text ≡ h.chars = ap chars h.utf8 ∙ chars-encodes h.chars h.scalar in
     let mark = no_mark h.chars rest (sym h.utf8 ∙ first) in
     let all : Reads start 0 h.pieces h.chars [] = subst (λ (x : List ℕ). Reads start 0 h.pieces x []) (append-nil h.chars) (h.read [] tt) in
     let begun : Reads start (mark_width h.chars) h.pieces (behind_mark h.chars) [] =
-    subst (λ (n : ℕ). Reads start n h.pieces (behind_mark h.chars) []) (sym mark.0) (subst (λ (x : List ℕ). Reads start 0 h.pieces x []) (sym mark.1) all) in (
-      hints_of h.pieces,
-      record {
-        utf8 = (h.chars, (h.scalar, sym h.utf8));
-        pieces = h.pieces;
-        read = subst (λ (x : List ℕ). Reads start (mark_width x) h.pieces (behind_mark x) []) (sym read) begun;
-        closed = ap (λ (n : Nest). n.levels) h.ends;
-        rooted = ap (λ (n : Nest). n.rooted) h.ends;
-        tree = ap (events_of start) (sym (append-nil h.pieces)) ∙ h.means [] ∙ append-nil (events (child.Element root));
-        hinted = refl;
-      },
-    )
+    subst (λ (n : ℕ). Reads start n h.pieces (behind_mark h.chars) []) (sym mark.0) (subst (λ (x : List ℕ). Reads start 0 h.pieces x []) (sym mark.1) all) in
+    record {
+      utf8 = (h.chars, (h.scalar, sym h.utf8));
+      pieces = h.pieces;
+      read = subst (λ (x : List ℕ). Reads start (mark_width x) h.pieces (behind_mark x) []) (sym read) begun;
+      closed = ap (λ (n : Nest). n.levels) h.ends;
+      rooted = ap (λ (n : Nest). n.rooted) h.ends;
+      tree = ap (events_of start) (sym (append-nil h.pieces)) ∙ h.means [] ∙ append-nil (events (child.Element root));
+      hinted = sym (ap first_hints h.hinted ∙ apart);
+    }
 
 -- ---- the text and the packet of a form
 
@@ -106,14 +104,16 @@ module _ (t : Parts) (hints : List Hint) (form : Form) (may : MayWrite t hints f
   made : (first : Bool) (at : ℕ) → MadeTree ps t.about (written_members t form) first at
   made first at = tree_made ps t.about (written_members t form) first at may.formed.about (are_declarable ps law.declared) (written_properties ps t form may.formed may.noted law.bound)
 
-  text_document : HasWriting (canonical_text t hints form) t form
+  firsts : first_hints (declared_hints ps) ≡ declared_hints ps
+  firsts = all_first (declared_hints ps) (hints_apart ps law.declared)
+
+  text_document : HasWriting (canonical_text t hints form) (declared_hints ps) t form
   unfolding written_text
   text_document =
       let m = made true 0 in
-      let all = spelt_then Anything Anything start (around_root true) (around_root true) 0 text (codes "\n") (λ es. events (child.Element m.root) ++ es) (λ es. es)
+      let all = spelt_both (declared_hints ps) [] Anything Anything start (around_root true) (around_root true) 0 text (codes "\n") (λ es. events (child.Element m.root) ++ es) (λ es. es)
       m.spelt (pad_spelt true (0 + length text) (codes "\n") refl) (λ left any. tt) in
-      let d = document_of (canonical_text t hints form) _ m.root refl all in
-      (m.root, m.is, d.0, d.1)
+      (m.root, m.is, document_of (declared_hints ps) (canonical_text t hints form) _ m.root refl (subst (λ (x : List Hint). IsSpeltWith x Anything start 0 (text ++ codes "\n") (λ es. events (child.Element m.root) ++ es) (around_root true)) (append-nil (declared_hints ps)) all) firsts)
 
   packet_parts : (len : ℕ) → canonical_packet t hints form len
       ≡ encode_utf8_all header_chars ++ (codes "\n" ++ (text ++ ((codes "\n" ++ pad (len - least_len ps t form)) ++ trailer)))
@@ -123,7 +123,7 @@ module _ (t : Parts) (hints : List Hint) (form : Form) (may : MayWrite t hints f
       regroup : (a l t p e : List ℕ) → (((a ++ l) ++ (t ++ l)) ++ p) ++ e ≡ a ++ (l ++ (t ++ ((l ++ p) ++ e)))
       regroup a l t p e = simp append_assoc
 
-  packet_document : (len : ℕ) → HasWriting (canonical_packet t hints form len) t form
+  packet_document : (len : ℕ) → HasWriting (canonical_packet t hints form len) (declared_hints ps) t form
   unfolding encode
   packet_document len =
       let a : List ℕ = encode_utf8_all header_chars in
@@ -132,12 +132,13 @@ module _ (t : Parts) (hints : List Hint) (form : Form) (may : MayWrite t hints f
       let on : ℕ = 0 + length a + length (codes "\n") + length text in
       let end = spelt_then Anything Anything (around_root true) (around_root true) (around_root true) on p trailer (λ es. es) (λ es. es)
       (pad_spelt true on p (pad_pads (len - least_len ps t form))) (trailer_spelt (on + length p)) (λ left any. tt) in
-      let back = spelt_then Anything Anything outside (around_root true) (around_root true) (0 + length a + length (codes "\n")) text (p ++ trailer) (λ es. events (child.Element m.root) ++ es) (λ es. es) m.spelt end (λ left any. tt) in
-      let line = spelt_then Anything Anything outside outside (around_root true) (0 + length a) (codes "\n") (text ++ (p ++ trailer)) (λ es. es) (λ es. events (child.Element m.root) ++ es)
-      (pad_spelt false (0 + length a) (codes "\n") refl) back (λ left any. tt) in
-      let all = spelt_then Anything Anything start outside (around_root true) 0 a (codes "\n" ++ (text ++ (p ++ trailer))) (λ es. es) (λ es. events (child.Element m.root) ++ es) (header_spelt 0) line (λ left any. tt) in
-      let d = document_of (a ++ (codes "\n" ++ (text ++ (p ++ trailer)))) _ m.root refl all in
-      (m.root, m.is, d.0, subst (λ (x : List ℕ). IsDocument x m.root d.0) (sym (packet_parts len)) d.1)
+      let back = spelt_both (declared_hints ps) [] Anything Anything outside (around_root true) (around_root true) (0 + length a + length (codes "\n")) text (p ++ trailer) (λ es. events (child.Element m.root) ++ es) (λ es. es) m.spelt end (λ left any. tt) in
+      let line = spelt_both [] (declared_hints ps) Anything Anything outside outside (around_root true) (0 + length a) (codes "\n") (text ++ (p ++ trailer)) (λ es. es) (λ es. events (child.Element m.root) ++ es)
+      (pad_spelt false (0 + length a) (codes "\n") refl)
+      (subst (λ (x : List Hint). IsSpeltWith x Anything outside (0 + length a + length (codes "\n")) (text ++ (p ++ trailer)) (λ es. events (child.Element m.root) ++ es) (around_root true)) (append-nil (declared_hints ps)) back) (λ left any. tt) in
+      let all = spelt_both [] (declared_hints ps) Anything Anything start outside (around_root true) 0 a (codes "\n" ++ (text ++ (p ++ trailer))) (λ es. es) (λ es. events (child.Element m.root) ++ es) (header_spelt 0) line (λ left any. tt) in
+      let d = document_of (declared_hints ps) (a ++ (codes "\n" ++ (text ++ (p ++ trailer)))) _ m.root refl all firsts in
+      (m.root, m.is, subst (λ (x : List ℕ). IsDocument x m.root (declared_hints ps)) (sym (packet_parts len)) d)
 
 pub written_documents : WrittenDocuments
 written_documents t hints form may = (text_document t hints form may, packet_document t hints form may)

@@ -1,7 +1,7 @@
 -- The fixed lines of a text: the elements around the properties.
 use Rattle.std.proofs.Common.{◌≡◌, ℕ, ◌+◌, Bool, false, ◌||◌, ◌⊎◌, inl, inr, List, [], ◌∷◌, ◌++◌, length, map, Option, Some, None, refl, ap, sym, subst, ◌∙◌, append-nil, arith, true}
 use Rattle.std.specs.Prelude.{codes, is_none, encode_utf8_all, unwrap_or}
-use Rattle.std.specs.List.{list_any}
+use Rattle.std.specs.List.{list_any, filter_map}
 use lib.Utf8.{encode}
 use Rattle.std.proofs.lemmas.Bool.{or_from}
 use Rattle.std.proofs.lemmas.Str.{encodes-append}
@@ -15,22 +15,23 @@ use Rattle.xml_grammar.specs.declared.tags.QName.{QName}
 use Rattle.xml_grammar.specs.declared.tags.RawAttribute.{RawAttribute}
 use Rattle.xml_grammar.specs.declared.tags.Tag.{Tag}
 use Rattle.xml_grammar.specs.Pieces.{Start, End, Character, Spells}
-use Rattle.xml_grammar.specs.Scopes.{Binding, plain_attributes, bound_to, or_nothing, element_name, expanded, expanded_attributes, is_misbound, is_unbound, same_qname, same_name}
+use Rattle.xml_grammar.specs.Scopes.{Binding, bindings_of, plain_attributes, bound_to, or_nothing, element_name, expanded, expanded_attributes, is_misbound, is_unbound, same_qname, same_name}
 use Rattle.xml_grammar.specs.Nesting.{Level, Nest, start, bound_at, has_twice, misbinds, unbinds, repeats, broken}
-use Rattle.xml_grammar.specs.Trees.{Event, Opens, Closes, put, events_of}
+use Rattle.xml_grammar.specs.Trees.{Event, Opens, Closes, put, events_of, hint_of}
 use Rattle.xmp_tree.specs.Wf.{lang_name, type_name}
 use Rattle.rdf_forms.specs.Words.{rdf, rdf_space, xml_space}
 use Rattle.round_trip.proofs.Premises.{bound_by, AreDeclarable, IsWritable}
 use Rattle.xmp_write.specs.Text.{top_text, open_meta, open_rdf}
 use Rattle.xmp_write.specs.Prefixes.{prefix_in, spelled}
-use Rattle.round_trip.proofs.Spelt.{inside, IsSpelt, Anything, spelt_then, spelt_one}
+use Rattle.round_trip.proofs.Spelt.{inside, IsSpeltWith, IsSpelt, Anything, spelt_both, spelt_one}
 use Rattle.round_trip.proofs.Tags.{none_of, end_good}
 use Rattle.round_trip.proofs.Quoted.{value_spelled}
 use Rattle.std.proofs.Math.Utf8.{scalars}
 use Rattle.xmp_values.proofs.CharacterTexts.{name_scalars}
 use Rattle.round_trip.proofs.Escapes.{scalars_append}
 use Rattle.round_trip.proofs.Marks.{in_rdf_prefix}
-use Rattle.round_trip.proofs.Declared.{top_raws, top_spelled, declares, none_plain, none_misbound, top_once, bound_behind, bound_here, each_fresh, found_named}
+use Rattle.round_trip.specs.Law.{meta_hint, rdf_hint}
+use Rattle.round_trip.proofs.Declared.{declared, top_raws, top_spelled, declares, none_plain, none_misbound, top_once, bound_behind, bound_here, each_fresh, found_named}
 use Rattle.round_trip.proofs.Built.{IsTagName}
 use Rattle.round_trip.proofs.Writing.{IsScope}
 
@@ -38,8 +39,8 @@ use Rattle.round_trip.proofs.Writing.{IsScope}
 pub line_spelt : (l : Level) (ls : List Level) (at : ℕ) → IsSpelt Anything (inside (l ∷ ls)) at (codes "\n") (put (codes "\n")) (inside (l ∷ ls))
 unfolding encode is_char broken
 line_spelt l ls at =
-    spelt_one (inside (l ∷ ls)) at (Character 0xA) (codes "\n") (put (codes "\n"))
-    (λ left. record { spelled = (refl, λ e. omega arith, λ e. omega arith, λ e. omega arith, refl); fits = λ mode is. absurd (omega arith) }) refl refl (λ more. refl)
+    spelt_one [] (inside (l ∷ ls)) at (Character 0xA) (codes "\n") (put (codes "\n"))
+    (λ left. record { spelled = (refl, λ e. omega arith, λ e. omega arith, λ e. omega arith, refl); fits = λ mode is. absurd (omega arith) }) refl refl refl (λ more. refl)
 
 -- ---- the levels
 
@@ -206,20 +207,20 @@ rdf_spelled = (
   refl,
 )
 
-pub meta_start : (first : Bool) (at : ℕ) → IsSpelt Anything (before_root first) at open_meta (λ es. Opens at (record { space = meta_space; local = codes "xmpmeta" }) [] ∷ es) (inside (meta_level ∷ []))
+pub meta_start : (first : Bool) (at : ℕ) → IsSpeltWith (meta_hint ∷ []) Anything (before_root first) at open_meta (λ es. Opens at (record { space = meta_space; local = codes "xmpmeta" }) [] ∷ es) (inside (meta_level ∷ []))
 unfolding encode broken xml_space xmlns_space meta_space
 meta_start true at =
-    spelt_one start at (Start meta_tag) open_meta (λ es. Opens at (record { space = meta_space; local = codes "xmpmeta" }) [] ∷ es)
-    (λ left. record { spelled = meta_spelled; fits = tt }) refl refl (λ more. refl)
+    spelt_one (meta_hint ∷ []) start at (Start meta_tag) open_meta (λ es. Opens at (record { space = meta_space; local = codes "xmpmeta" }) [] ∷ es)
+    (λ left. record { spelled = meta_spelled; fits = tt }) refl refl refl (λ more. refl)
 meta_start false at =
-    spelt_one outside at (Start meta_tag) open_meta (λ es. Opens at (record { space = meta_space; local = codes "xmpmeta" }) [] ∷ es)
-    (λ left. record { spelled = meta_spelled; fits = tt }) refl refl (λ more. refl)
+    spelt_one (meta_hint ∷ []) outside at (Start meta_tag) open_meta (λ es. Opens at (record { space = meta_space; local = codes "xmpmeta" }) [] ∷ es)
+    (λ left. record { spelled = meta_spelled; fits = tt }) refl refl refl (λ more. refl)
 
-pub rdf_start : (at : ℕ) → IsSpelt Anything (inside (meta_level ∷ [])) at open_rdf (λ es. Opens at (rdf (codes "RDF")) [] ∷ es) (inside (rdf_level ∷ meta_level ∷ []))
+pub rdf_start : (at : ℕ) → IsSpeltWith (rdf_hint ∷ []) Anything (inside (meta_level ∷ [])) at open_rdf (λ es. Opens at (rdf (codes "RDF")) [] ∷ es) (inside (rdf_level ∷ meta_level ∷ []))
 unfolding encode broken xml_space xmlns_space rdf_space
 rdf_start at =
-    spelt_one (inside (meta_level ∷ [])) at (Start rdf_tag) open_rdf (λ es. Opens at (rdf (codes "RDF")) [] ∷ es)
-    (λ left. record { spelled = rdf_spelled; fits = tt }) refl refl (λ more. refl)
+    spelt_one (rdf_hint ∷ []) (inside (meta_level ∷ [])) at (Start rdf_tag) open_rdf (λ es. Opens at (rdf (codes "RDF")) [] ∷ es)
+    (λ left. record { spelled = rdf_spelled; fits = tt }) refl refl refl (λ more. refl)
 
 top_good : (about : List ℕ) (ps : List Hint) → AreDeclarable ps → broken (inside (rdf_level ∷ meta_level ∷ [])) (Start (top_tag about ps)) ≡ None
 unfolding broken
@@ -238,12 +239,19 @@ top_good about ps h =
     free : is_unbound (top_level about ps).bound (Some (codes "rdf")) ≡ false
     free = ap is_none (rdf_bound about ps h)
 
+hints_bound : (ps : List Hint) → filter_map hint_of (map bound_by ps) ≡ ps
+hints_bound [] = refl
+hints_bound (p ∷ ps) = ap (λ (hs : List Hint). p ∷ hs) (hints_bound ps)
+
+hints_declared : (ps : List Hint) → filter_map hint_of (bindings_of (map declared ps)) ≡ ps
+hints_declared ps = ap (filter_map hint_of) (declares ps) ∙ hints_bound ps
+
 -- the about as an attribute
 abbrev pub about_attribute : List ℕ → Attribute
 about_attribute about = record { name = rdf (codes "about"); value = about }
 
 pub top_start : (about : List ℕ) (ps : List Hint) (at : ℕ) → IsCharText about → AreDeclarable ps
-    → IsSpelt Anything (inside (rdf_level ∷ meta_level ∷ [])) at (codes "<rdf:Description" ++ top_text about ps ++ codes ">")
+    → IsSpeltWith ps Anything (inside (rdf_level ∷ meta_level ∷ [])) at (codes "<rdf:Description" ++ top_text about ps ++ codes ">")
     (λ es. Opens at (rdf (codes "Description")) (about_attribute about ∷ []) ∷ es) (inside (top_level about ps ∷ rdf_level ∷ meta_level ∷ []))
 unfolding encode is_name_start is_name_char
 top_start about ps at text h =
@@ -252,11 +260,11 @@ top_start about ps at text h =
     ap (λ (x : List ℕ). encode_utf8_all (x ++ codes ">")) (append-nil (codes "<rdf:Description" ++ t.0))
     ∙ encodes-append (codes "<rdf:Description" ++ t.0) (codes ">")
     ∙ ap (λ (x : List ℕ). x ++ codes ">") (encodes-append (codes "<rdf:Description") t.0 ∙ ap (λ (x : List ℕ). codes "<rdf:Description" ++ x) (sym t.2)) in
-    subst (λ (b : List ℕ). IsSpelt Anything (inside (rdf_level ∷ meta_level ∷ [])) at b (λ es. Opens at (rdf (codes "Description")) (about_attribute about ∷ []) ∷ es) (inside (top_level about ps ∷ rdf_level ∷ meta_level ∷ []))) all
-    (spelt_one (inside (rdf_level ∷ meta_level ∷ [])) at (Start (top_tag about ps)) (codes "<rdf:Description" ++ t.0 ++ [] ++ codes ">")
+    subst (λ (b : List ℕ). IsSpeltWith ps Anything (inside (rdf_level ∷ meta_level ∷ [])) at b (λ es. Opens at (rdf (codes "Description")) (about_attribute about ∷ []) ∷ es) (inside (top_level about ps ∷ rdf_level ∷ meta_level ∷ []))) all
+    (spelt_one ps (inside (rdf_level ∷ meta_level ∷ [])) at (Start (top_tag about ps)) (codes "<rdf:Description" ++ t.0 ++ [] ++ codes ">")
     (λ es. Opens at (rdf (codes "Description")) (about_attribute about ∷ []) ∷ es)
     (λ left. record { spelled = (codes "rdf:Description", t.0, [], (codes "rdf", codes "Description", (refl, refl), (refl, refl), refl), t.1, refl, refl); fits = tt })
-    (top_good about ps h) (scalars_append (codes "<rdf:Description" ++ t.0 ++ []) (codes ">") (scalars_append (codes "<rdf:Description" ++ t.0) [] (scalars_append (codes "<rdf:Description") t.0 refl t.3) refl) refl) (λ more.
+    (top_good about ps h) (scalars_append (codes "<rdf:Description" ++ t.0 ++ []) (codes ">") (scalars_append (codes "<rdf:Description" ++ t.0) [] (scalars_append (codes "<rdf:Description") t.0 refl t.3) refl) refl) (hints_declared ps) (λ more.
     ap (λ (xs : List RawAttribute). Opens at (element_name bs (in_rdf_prefix (codes "Description"))) (expanded bs (record { name = in_rdf_prefix (codes "about"); value = about }) ∷ map (expanded bs) xs)
     ∷ events_of (inside (top_level about ps ∷ rdf_level ∷ meta_level ∷ [])) more) (none_plain ps)
     ∙ ap (λ (o : Option (List ℕ)). Opens at (record { space = or_nothing o; local = codes "Description" }) (record { name = record { space = or_nothing o; local = codes "about" }; value = about } ∷ [])
@@ -266,7 +274,7 @@ top_start about ps at text h =
     bs = (top_level about ps).bound
 
 closed : (lev : Level) (ls : List Level) (at : ℕ) (text : List ℕ) → Spells (End lev.name) text → scalars text ≡ true → IsSpelt Anything (inside (lev ∷ ls)) at (encode_utf8_all text) (λ es. Closes ∷ es) (inside ls)
-closed lev ls at text h plain = spelt_one (inside (lev ∷ ls)) at (End lev.name) text (λ es. Closes ∷ es) (λ left. record { spelled = h; fits = tt }) (end_good lev ls) plain (λ more. refl)
+closed lev ls at text h plain = spelt_one [] (inside (lev ∷ ls)) at (End lev.name) text (λ es. Closes ∷ es) (λ left. record { spelled = h; fits = tt }) (end_good lev ls) plain refl (λ more. refl)
 
 pub top_end : (about : List ℕ) (ps : List Hint) (ls : List Level) (at : ℕ) → IsSpelt Anything (inside (top_level about ps ∷ ls)) at (codes "</rdf:Description>") (λ es. Closes ∷ es) (inside ls)
 unfolding encode is_name_start is_name_char
@@ -282,17 +290,19 @@ meta_end ls at = closed meta_level ls at (codes "</x:xmpmeta>") (codes "x:xmpmet
 
 -- ---- what stands between two tags
 
-pub frame : (s : Nest) (lev : Level) (ls : List Level) (at : ℕ) (a b c : List ℕ) (o : Event) (f : List Event → List Event)
-    → IsSpelt Anything s at a (λ es. o ∷ es) (inside (lev ∷ ls)) → IsSpelt Anything (inside (lev ∷ ls)) (at + length a) b f (inside (lev ∷ ls))
+pub frame : (hs gs : List Hint) (s : Nest) (lev : Level) (ls : List Level) (at : ℕ) (a b c : List ℕ) (o : Event) (f : List Event → List Event)
+    → IsSpeltWith hs Anything s at a (λ es. o ∷ es) (inside (lev ∷ ls)) → IsSpeltWith gs Anything (inside (lev ∷ ls)) (at + length a) b f (inside (lev ∷ ls))
     → IsSpelt Anything (inside (lev ∷ ls)) (at + length a + length b) c (λ es. Closes ∷ es) (inside ls)
-    → IsSpelt Anything s at (a ++ (b ++ c)) (λ es. o ∷ f (Closes ∷ es)) (inside ls)
-frame s lev ls at a b c o f h k e =
-    spelt_then Anything Anything s (inside (lev ∷ ls)) (inside ls) at a (b ++ c) (λ es. o ∷ es) (λ es. f (Closes ∷ es)) h
-    (spelt_then Anything Anything (inside (lev ∷ ls)) (inside (lev ∷ ls)) (inside ls) (at + length a) b c f (λ es. Closes ∷ es) k e (λ left any. tt)) (λ left any. tt)
+    → IsSpeltWith (hs ++ gs) Anything s at (a ++ (b ++ c)) (λ es. o ∷ f (Closes ∷ es)) (inside ls)
+frame hs gs s lev ls at a b c o f h k e =
+    spelt_both hs gs Anything Anything s (inside (lev ∷ ls)) (inside ls) at a (b ++ c) (λ es. o ∷ es) (λ es. f (Closes ∷ es)) h
+    (subst (λ (x : List Hint). IsSpeltWith x Anything (inside (lev ∷ ls)) (at + length a) (b ++ c) (λ es. f (Closes ∷ es)) (inside ls)) (append-nil gs)
+    (spelt_both gs [] Anything Anything (inside (lev ∷ ls)) (inside (lev ∷ ls)) (inside ls) (at + length a) b c f (λ es. Closes ∷ es) k e (λ left any. tt))) (λ left any. tt)
 
 -- between two line feeds
-pub lined_between : (l : Level) (ls : List Level) (at : ℕ) (b : List ℕ) (f : List Event → List Event) → IsSpelt Anything (inside (l ∷ ls)) (at + length (codes "\n")) b f (inside (l ∷ ls))
-    → IsSpelt Anything (inside (l ∷ ls)) at (codes "\n" ++ (b ++ codes "\n")) (λ es. put (codes "\n") (f (put (codes "\n") es))) (inside (l ∷ ls))
-lined_between l ls at b f h =
-    spelt_then Anything Anything (inside (l ∷ ls)) (inside (l ∷ ls)) (inside (l ∷ ls)) at (codes "\n") (b ++ codes "\n") (put (codes "\n")) (λ es. f (put (codes "\n") es)) (line_spelt l ls at)
-    (spelt_then Anything Anything (inside (l ∷ ls)) (inside (l ∷ ls)) (inside (l ∷ ls)) (at + length (codes "\n")) b (codes "\n") f (put (codes "\n")) h (line_spelt l ls (at + length (codes "\n") + length b)) (λ left any. tt)) (λ left any. tt)
+pub lined_between : (hs : List Hint) (l : Level) (ls : List Level) (at : ℕ) (b : List ℕ) (f : List Event → List Event) → IsSpeltWith hs Anything (inside (l ∷ ls)) (at + length (codes "\n")) b f (inside (l ∷ ls))
+    → IsSpeltWith hs Anything (inside (l ∷ ls)) at (codes "\n" ++ (b ++ codes "\n")) (λ es. put (codes "\n") (f (put (codes "\n") es))) (inside (l ∷ ls))
+lined_between hs l ls at b f h =
+    spelt_both [] hs Anything Anything (inside (l ∷ ls)) (inside (l ∷ ls)) (inside (l ∷ ls)) at (codes "\n") (b ++ codes "\n") (put (codes "\n")) (λ es. f (put (codes "\n") es)) (line_spelt l ls at)
+    (subst (λ (x : List Hint). IsSpeltWith x Anything (inside (l ∷ ls)) (at + length (codes "\n")) (b ++ codes "\n") (λ es. f (put (codes "\n") es)) (inside (l ∷ ls))) (append-nil hs)
+    (spelt_both hs [] Anything Anything (inside (l ∷ ls)) (inside (l ∷ ls)) (inside (l ∷ ls)) (at + length (codes "\n")) b (codes "\n") f (put (codes "\n")) h (line_spelt l ls (at + length (codes "\n") + length b)) (λ left any. tt))) (λ left any. tt)

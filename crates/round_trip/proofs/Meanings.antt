@@ -17,7 +17,7 @@ use Rattle.xmp_write.specs.WrittenPackets.{canonical_packet}
 use Rattle.rdf_forms.specs.Words.{same_name}
 use Rattle.rdf_forms.specs.Merging.{stands_in, first_twice, MergesTo}
 use Rattle.rdf_soundness.proofs.Words.{same_name_is}
-use Rattle.round_trip.specs.Law.{IsNote, MayWrite, HasWriting, TextMeans, PacketMeans, whole_form, PacketReadsBack, main_form, rest_form, SplitReadsBack}
+use Rattle.round_trip.specs.Law.{IsNote, MayWrite, HasWriting, text_hints, TextMeans, PacketMeans, whole_form, PacketReadsBack, main_form, rest_form, SplitReadsBack}
 use Rattle.round_trip.proofs.Names.{differ_cons}
 use Rattle.round_trip.proofs.Notes.{tree_read_back}
 use Rattle.round_trip.proofs.WrittenMembers.{part_of, part_formed}
@@ -27,24 +27,23 @@ use Rattle.round_trip.proofs.Payloads.{text_is, may_write_again}
 
 -- ---- one text
 
-text_means : (text : List ℕ) (t : Parts) (form : Form) → Wf t → IsNote form.note → HasWriting text t form → TextMeans text (part_of t form) form.note
-text_means text t form wf noted h = record {
+text_means : (text : List ℕ) (declared : List Hint) (t : Parts) (form : Form) → Wf t → IsNote form.note → HasWriting text declared t form → TextMeans text declared (part_of t form) form.note
+text_means text declared t form wf noted h = record {
   root = h.0;
-  hints = h.2;
-  document = h.3;
-  alone = λ other others d. one_document text other h.0 others h.2 d h.3;
+  document = h.2;
+  alone = λ other others d. one_document text other h.0 others declared d h.2;
   unbroken = λ levels enough. (tree_read_back (part_of t form) form.note levels h.0 h.1 (part_formed t form wf) noted enough).0;
   tree_is = λ levels enough. (tree_read_back (part_of t form) form.note levels h.0 h.1 (part_formed t form wf) noted enough).1;
   note_is = λ levels enough. (tree_read_back (part_of t form) form.note levels h.0 h.1 (part_formed t form wf) noted enough).2;
 }
 
-canonical_means : (t : Parts) (hints : List Hint) (form : Form) → MayWrite t hints form → TextMeans (canonical_text t hints form) (part_of t form) form.note
-canonical_means t hints form may = text_means (canonical_text t hints form) t form may.formed may.noted (written_documents t hints form may).0
+canonical_means : (t : Parts) (hints : List Hint) (form : Form) → MayWrite t hints form → TextMeans (canonical_text t hints form) (text_hints t hints form) (part_of t form) form.note
+canonical_means t hints form may = text_means (canonical_text t hints form) (text_hints t hints form) t form may.formed may.noted (written_documents t hints form may).0
 
-packet_means : (t : Parts) (hints : List Hint) (form : Form) (len : ℕ) → MayWrite t hints form → PacketMeans (canonical_packet t hints form len) (part_of t form) form.note
+packet_means : (t : Parts) (hints : List Hint) (form : Form) (len : ℕ) → MayWrite t hints form → PacketMeans (canonical_packet t hints form len) (text_hints t hints form) (part_of t form) form.note
 packet_means t hints form len may = record {
   text_is = text_is (prefixes t hints form) t form len;
-  means = text_means (canonical_packet t hints form len) t form may.formed may.noted ((written_documents t hints form may).1 len);
+  means = text_means (canonical_packet t hints form len) (text_hints t hints form) t form may.formed may.noted ((written_documents t hints form may).1 len);
   writable = may_write_again (prefixes t hints form) t form len;
 }
 
@@ -101,13 +100,13 @@ parts_merge t k wf =
 
 pub packet_reads_back : PacketReadsBack
 packet_reads_back t hints len may =
-    subst (λ (x : Parts). PacketMeans (canonical_packet t hints (whole_form t) len) x None) (whole_part t) (packet_means t hints (whole_form t) len may)
+    subst (λ (x : Parts). PacketMeans (canonical_packet t hints (whole_form t) len) (text_hints t hints (whole_form t)) x None) (whole_part t) (packet_means t hints (whole_form t) len may)
 
 pub split_reads_back : SplitReadsBack
-split_reads_back t hints k digits len within first rest = record {
+split_reads_back t hints k digits len first rest = record {
   main = under t.about (take k t.props);
   more = under t.about (drop k t.props);
-  payload_means = subst (λ (x : Parts). PacketMeans (canonical_packet t hints (main_form k digits) len) x (Some digits)) (first_part t k (Some digits)) (packet_means t hints (main_form k digits) len first);
-  text_means = subst (λ (x : Parts). TextMeans (canonical_text t hints (rest_form t k)) x None) (last_part t k) (canonical_means t hints (rest_form t k) rest);
+  packet_means = subst (λ (x : Parts). PacketMeans (canonical_packet t hints (main_form k digits) len) (text_hints t hints (main_form k digits)) x (Some digits)) (first_part t k (Some digits)) (packet_means t hints (main_form k digits) len first);
+  text_means = subst (λ (x : Parts). TextMeans (canonical_text t hints (rest_form t k)) (text_hints t hints (rest_form t k)) x None) (last_part t k) (canonical_means t hints (rest_form t k) rest);
   merge = parts_merge t k first.formed;
 }

@@ -10,7 +10,7 @@ use Rattle.xmp_values.specs.Characters.{is_blank}
 use Rattle.xmp_values.specs.declared.hints.Hint.{Hint}
 use Rattle.xmp_tree.specs.Parts.{Parts}
 use Rattle.xmp_write.specs.declared.forms.Form.{Form}
-use Rattle.xmp_write.specs.Packets.{without_end, packet_text, is_writable, is_packet_for_writing}
+use Rattle.xmp_packets.specs.Packets.{without_end, packet_text, is_writable, is_packet_for_writing}
 use Rattle.xmp_write.specs.Text.{written_text}
 use Rattle.xmp_write.specs.WrittenPackets.{header, pad, trailer, least_len, packet}
 

@@ -1,16 +1,17 @@
 -- Parts of a text inside an element that whole pieces spell, and what those pieces are: parts compose.
-use Rattle.std.proofs.Common.{◌≡◌, ◌≢◌, ℕ, ◌+◌, Bool, true, false, cond, inl, inr, List, [], ◌∷◌, ◌++◌, length, None, refl, ap, sym, subst, ◌∙◌, append_assoc, arith}
+use Rattle.std.proofs.Common.{◌≡◌, ◌≢◌, ℕ, ◌+◌, Bool, true, false, cond, inl, inr, List, [], ◌∷◌, ◌++◌, length, None, refl, ap, sym, subst, ◌∙◌, append_assoc, append-nil, arith}
 use Rattle.std.specs.Prelude.{IsTrue, codes, ◌==◌, encode_utf8, encode_utf8_all}
 use Rattle.std.specs.List.{list_all}
 use lib.Utf8.{encode}
 use Rattle.std.proofs.lemmas.Bool.{eqb-true, eqb-false}
 use Rattle.std.proofs.lemmas.Str.{encodes-append}
 use Rattle.xmp_values.specs.Characters.{is_char}
+use Rattle.xmp_values.specs.declared.hints.Hint.{Hint}
 use Rattle.xml_grammar.specs.declared.tokens.Mode.TheVariants as modes
 use Rattle.xml_grammar.specs.Spelling.{BeginsWith, SpellsReference, Lt, Gt, Amp}
 use Rattle.xml_grammar.specs.Pieces.{Piece, Reference, Character, Stands}
 use Rattle.xml_grammar.specs.Nesting.{Level, Nest, mode_of, enter, broken}
-use Rattle.xml_grammar.specs.Trees.{Placed, Event, put, events_of}
+use Rattle.xml_grammar.specs.Trees.{Placed, Event, put, events_of, piece_hints, all_hints}
 use Rattle.xml_grammar.specs.Documents.{width, Reads, nest_after}
 use Rattle.xml_grammar.proofs.Splits.{all_head, all_tail, head_same, tail_same}
 use Rattle.xml_grammar.proofs.Rows.{width-append, reads_append, nest-append, put_inside-append}
@@ -22,8 +23,9 @@ use Rattle.std.proofs.Math.Utf8.{scalars}
 abbrev pub inside : List Level → Nest
 inside ls = record { first = false; levels = ls; rooted = true }
 
--- Bytes at a place that pieces spell whatever follows that is so, what the pieces add before later events, and the nest behind.
-pub record IsSpelt (Before : List ℕ → Type 0) (s : Nest) (at : ℕ) (bytes : List ℕ) (adds : List Event → List Event) (t : Nest) : Type 0 where
+-- Bytes at a place that pieces spell whatever follows that is so, the prefixes that the pieces declare, what they add before later
+-- events, and the nest behind.
+pub record IsSpeltWith (hs : List Hint) (Before : List ℕ → Type 0) (s : Nest) (at : ℕ) (bytes : List ℕ) (adds : List Event → List Event) (t : Nest) : Type 0 where
   pub chars : List ℕ
   pub utf8 : bytes ≡ encode_utf8_all chars
   pub scalar : scalars chars ≡ true
@@ -31,6 +33,11 @@ pub record IsSpelt (Before : List ℕ → Type 0) (s : Nest) (at : ℕ) (bytes :
   pub read : (left : List ℕ) → Before left → Reads s at pieces (chars ++ left) left
   pub ends : nest_after s pieces ≡ t
   pub means : (more : List Placed) → events_of s (pieces ++ more) ≡ adds (events_of t more)
+  pub hinted : all_hints pieces ≡ hs
+
+-- pieces that declare nothing
+abbrev pub IsSpelt : (List ℕ → Type 0) → Nest → ℕ → List ℕ → (List Event → List Event) → Nest → Type 0
+IsSpelt Before s at bytes adds t = IsSpeltWith [] Before s at bytes adds t
 
 abbrev pub Anything : List ℕ → Type 0
 Anything left = Unit {0}
@@ -42,11 +49,15 @@ Tagged left = BeginsWith (codes "<") left
 events_assoc : (s : Nest) (ps qs more : List Placed) → events_of s ((ps ++ qs) ++ more) ≡ events_of s (ps ++ (qs ++ more))
 events_assoc s ps qs more = ap (events_of s) (append_assoc ps qs more)
 
+hints-append : (ps qs : List Placed) → all_hints (ps ++ qs) ≡ all_hints ps ++ all_hints qs
+hints-append [] qs = refl
+hints-append (p ∷ ps) qs = ap (λ (hs : List Hint). piece_hints p.1 ++ hs) (hints-append ps qs) ∙ sym (append_assoc (piece_hints p.1) (all_hints ps) (all_hints qs))
+
 -- one part and then another, of which the second makes what the first asks for
-pub spelt_then : (First Second : List ℕ → Type 0) (s t u : Nest) (at : ℕ) (a b : List ℕ) (f g : List Event → List Event) (h : IsSpelt First s at a f t)
-    (k : IsSpelt Second t (at + length a) b g u) → ((left : List ℕ) → Second left → First (k.chars ++ left))
-    → IsSpelt Second s at (a ++ b) (λ es. f (g es)) u
-spelt_then First Second s t u at a b f g h k fits = record {
+pub spelt_both : (hs gs : List Hint) (First Second : List ℕ → Type 0) (s t u : Nest) (at : ℕ) (a b : List ℕ) (f g : List Event → List Event) (h : IsSpeltWith hs First s at a f t)
+    (k : IsSpeltWith gs Second t (at + length a) b g u) → ((left : List ℕ) → Second left → First (k.chars ++ left))
+    → IsSpeltWith (hs ++ gs) Second s at (a ++ b) (λ es. f (g es)) u
+spelt_both hs gs First Second s t u at a b f g h k fits = record {
   chars = h.chars ++ k.chars;
   utf8 = ap (λ (x : List ℕ). x ++ b) h.utf8 ∙ ap (λ (x : List ℕ). encode_utf8_all h.chars ++ x) k.utf8 ∙ sym (encodes-append h.chars k.chars);
   scalar = scalars_append h.chars k.chars h.scalar k.scalar;
@@ -61,16 +72,22 @@ spelt_then First Second s t u at a b f g h k fits = record {
       (reads_append s at (at + length a) h.pieces k.pieces (h.chars ++ (k.chars ++ left)) (k.chars ++ left) left one two (omega (arith, wide, all)));
   ends = nest-append s h.pieces k.pieces ∙ ap (λ (z : Nest). nest_after z k.pieces) h.ends ∙ k.ends;
   means = λ more. events_assoc s h.pieces k.pieces more ∙ h.means (k.pieces ++ more) ∙ ap f (k.means more);
+  hinted = hints-append h.pieces k.pieces ∙ ap (λ (x : List Hint). x ++ all_hints k.pieces) h.hinted ∙ ap (λ (x : List Hint). hs ++ x) k.hinted;
 }
+
+pub spelt_then : (First Second : List ℕ → Type 0) (s t u : Nest) (at : ℕ) (a b : List ℕ) (f g : List Event → List Event) (h : IsSpelt First s at a f t)
+    (k : IsSpelt Second t (at + length a) b g u) → ((left : List ℕ) → Second left → First (k.chars ++ left))
+    → IsSpelt Second s at (a ++ b) (λ es. f (g es)) u
+spelt_then First Second s t u at a b f g h k fits = spelt_both [] [] First Second s t u at a b f g h k fits
 
 -- nothing
 pub spelt_none : (s : Nest) (at : ℕ) → IsSpelt Anything s at [] (λ es. es) s
-spelt_none s at = record { chars = []; utf8 = refl; scalar = refl; pieces = []; read = λ left before. refl; ends = refl; means = λ more. refl }
+spelt_none s at = record { chars = []; utf8 = refl; scalar = refl; pieces = []; read = λ left before. refl; ends = refl; means = λ more. refl; hinted = refl }
 
 -- one piece
-pub spelt_one : (s : Nest) (at : ℕ) (p : Piece) (text : List ℕ) (f : List Event → List Event) → ((left : List ℕ) → Stands (mode_of s) p text left) → broken s p ≡ None → scalars text ≡ true
-    → ((more : List Placed) → events_of s ((at, p) ∷ more) ≡ f (events_of (enter s p) more)) → IsSpelt Anything s at (encode_utf8_all text) f (enter s p)
-spelt_one s at p text f stands good plain means = record {
+pub spelt_one : (hs : List Hint) (s : Nest) (at : ℕ) (p : Piece) (text : List ℕ) (f : List Event → List Event) → ((left : List ℕ) → Stands (mode_of s) p text left) → broken s p ≡ None → scalars text ≡ true → piece_hints p ≡ hs
+    → ((more : List Placed) → events_of s ((at, p) ∷ more) ≡ f (events_of (enter s p) more)) → IsSpeltWith hs Anything s at (encode_utf8_all text) f (enter s p)
+spelt_one hs s at p text f stands good plain declares means = record {
   chars = text;
   utf8 = refl;
   scalar = plain;
@@ -78,6 +95,7 @@ spelt_one s at p text f stands good plain means = record {
   read = λ left before. (refl, text, left, stands left, good, refl, refl);
   ends = refl;
   means = means;
+  hinted = append-nil (piece_hints p) ∙ declares;
 }
 
 -- ---- text
@@ -128,11 +146,12 @@ record IsTextPiece (l : Level) (ls : List Level) (at c : ℕ) (p : Piece) (front
   good : broken (inside (l ∷ ls)) p ≡ None
   same : enter (inside (l ∷ ls)) p ≡ inside (l ∷ ls)
   means : (more : List Placed) → events_of (inside (l ∷ ls)) ((at, p) ∷ more) ≡ put (encode_utf8 c) (events_of (inside (l ∷ ls)) more)
+  quiet : piece_hints p ≡ []
 
 module _ (l : Level) (ls : List Level) (at : ℕ) where
   referred : (c : ℕ) (front : List ℕ) → SpellsReference c front → IsTextPiece l ls at c (Reference c) front
   unfolding broken
-  referred c front h = record { stands = λ back free. record { spelled = h; fits = tt }; good = refl; same = refl; means = λ more. refl }
+  referred c front h = record { stands = λ back free. record { spelled = h; fits = tt }; good = refl; same = refl; means = λ more. refl; quiet = refl }
 
   plain : (c : ℕ) → is_char c ≡ true → c ≢ 0x3C → c ≢ 0x26 → c ≢ 0xD → IsTextPiece l ls at c (Character c) (c ∷ [])
   unfolding broken
@@ -141,6 +160,7 @@ module _ (l : Level) (ls : List Level) (at : ℕ) where
     good = refl;
     same = refl;
     means = λ more. refl;
+    quiet = refl;
   }
 
   text_piece_is : (c : ℕ) → is_char c ≡ true → IsTextPiece l ls at c (text_piece c) (text_byte c)
@@ -189,6 +209,12 @@ module _ (l : Level) (ls : List Level) where
       ∙ ap (put (encode_utf8 c)) (text_means (at + width (text_byte c)) cs more (all_tail is_char c cs h))
       ∙ put_inside-append (l ∷ ls) (encode_utf8 c) (encode_utf8_all cs) (events_of (inside (l ∷ ls)) more)
 
+  text_quiet : (at : ℕ) (cs : List ℕ) → IsTrue (list_all is_char cs) → all_hints (text_pieces at cs) ≡ []
+  text_quiet at [] h = refl
+  text_quiet at (c ∷ cs) h =
+      ap (λ (hs : List Hint). hs ++ all_hints (text_pieces (at + width (text_byte c)) cs)) (text_piece_is l ls at c (all_head is_char c cs h)).quiet
+      ∙ text_quiet (at + width (text_byte c)) cs (all_tail is_char c cs h)
+
   -- a text inside an element, before a tag
   pub text_spelt : (at : ℕ) (cs : List ℕ) → IsTrue (list_all is_char cs)
       → IsSpelt Tagged (inside (l ∷ ls)) at (text_escaped (encode_utf8_all cs)) (put (encode_utf8_all cs)) (inside (l ∷ ls))
@@ -200,4 +226,5 @@ module _ (l : Level) (ls : List Level) where
     read = λ left tagged. text_reads at cs left h tagged;
     ends = text_ends at cs h;
     means = λ more. text_means at cs more h;
+    hinted = text_quiet at cs h;
   }

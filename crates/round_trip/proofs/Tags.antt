@@ -1,7 +1,7 @@
 -- Tags inside an element that break no rule, and elements of them.
 use Rattle.std.proofs.Common.{◌≡◌, ℕ, ◌+◌, ◌≤◌, Bool, true, false, not, cond, ◌||◌, List, [], ◌∷◌, ◌++◌, length, Option, Some, None, refl, ap, sym, subst, ◌∙◌, append_assoc, arith}
 use Rattle.std.specs.Prelude.{codes, nat_le, encode_utf8_all}
-use Rattle.std.specs.List.{list_any}
+use Rattle.std.specs.List.{list_any, filter_map}
 use lib.Utf8.{encode}
 use Rattle.std.proofs.lemmas.Bool.{false_from_ne_true, leb-true, and_from}
 use Rattle.std.proofs.lemmas.Str.{encodes-append}
@@ -14,7 +14,7 @@ use Rattle.xml_grammar.specs.Spelling.{BeginsWith, SpellsQName, SpellsAttributes
 use Rattle.xml_grammar.specs.Pieces.{Start, End}
 use Rattle.xml_grammar.specs.Scopes.{Binding, bindings_of, is_misbound, element_name, expanded_attributes, same_prefix, same_qname, same_name}
 use Rattle.xml_grammar.specs.Nesting.{Level, has_unbound, has_twice, misbinds, unbinds, repeats, is_too_deep, broken}
-use Rattle.xml_grammar.specs.Trees.{Event, Opens, Closes}
+use Rattle.xml_grammar.specs.Trees.{Event, Opens, Closes, hint_of}
 use Rattle.xml_grammar.proofs.SoundPieces.{bytes_same}
 use Rattle.xmp_write.specs.Text.{element_text, empty_text}
 use Rattle.std.proofs.Math.Utf8.{scalars}
@@ -103,18 +103,18 @@ module _ (l : Level) (ls : List Level) (q : QName) (raws : List RawAttribute) (n
   unfolding encode
   start_spelt at =
       subst (λ (b : List ℕ). IsSpelt Anything (inside (l ∷ ls)) at b (λ es. opens at ∷ es) (inside (level_of l q raws ∷ l ∷ ls))) (tag_bytes (codes ">") refl)
-      (spelt_one (inside (l ∷ ls)) at (Start (record { name = q; attributes = raws; empty = false })) (codes "<" ++ h.name_chars ++ h.chars ++ [] ++ codes ">") (λ es. opens at ∷ es)
+      (spelt_one [] (inside (l ∷ ls)) at (Start (record { name = q; attributes = raws; empty = false })) (codes "<" ++ h.name_chars ++ h.chars ++ [] ++ codes ">") (λ es. opens at ∷ es)
       (λ left. record { spelled = (h.name_chars, h.chars, [], h.named, h.attributed, refl, refl); fits = tt })
-      (start_good l ls (record { name = q; attributes = raws; empty = false }) (h.good false) h.low) (tag_scalars (codes ">") refl) (λ more. refl))
+      (start_good l ls (record { name = q; attributes = raws; empty = false }) (h.good false) h.low) (tag_scalars (codes ">") refl) (ap (filter_map hint_of) (h.good false).declares_none) (λ more. refl))
 
   -- an element without anything in it
   pub empty_spelt : (at : ℕ) → IsSpelt Anything (inside (l ∷ ls)) at (empty_text name attributes) (λ es. opens at ∷ Closes ∷ es) (inside (l ∷ ls))
   unfolding encode
   empty_spelt at =
       subst (λ (b : List ℕ). IsSpelt Anything (inside (l ∷ ls)) at b (λ es. opens at ∷ Closes ∷ es) (inside (l ∷ ls))) (tag_bytes (codes "/>") refl)
-      (spelt_one (inside (l ∷ ls)) at (Start (record { name = q; attributes = raws; empty = true })) (codes "<" ++ h.name_chars ++ h.chars ++ [] ++ codes "/>") (λ es. opens at ∷ Closes ∷ es)
+      (spelt_one [] (inside (l ∷ ls)) at (Start (record { name = q; attributes = raws; empty = true })) (codes "<" ++ h.name_chars ++ h.chars ++ [] ++ codes "/>") (λ es. opens at ∷ Closes ∷ es)
       (λ left. record { spelled = (h.name_chars, h.chars, [], h.named, h.attributed, refl, refl); fits = tt })
-      (start_good l ls (record { name = q; attributes = raws; empty = true }) (h.good true) h.low) (tag_scalars (codes "/>") refl) (λ more. refl))
+      (start_good l ls (record { name = q; attributes = raws; empty = true }) (h.good true) h.low) (tag_scalars (codes "/>") refl) (ap (filter_map hint_of) (h.good true).declares_none) (λ more. refl))
 
   end_bytes : encode_utf8_all (codes "</" ++ h.name_chars ++ [] ++ codes ">") ≡ codes "</" ++ name ++ codes ">"
   unfolding encode
@@ -142,6 +142,7 @@ module _ (l : Level) (ls : List Level) (q : QName) (raws : List RawAttribute) (n
       );
       ends = refl;
       means = λ more. refl;
+      hinted = refl;
     },
     λ left. ((0x2F ∷ h.name_chars) ++ [] ++ codes ">" ++ left, refl),
   )

@@ -21,7 +21,8 @@ use Rattle.round_trip.proofs.Premises.{AreDeclarable, IsWritable, IsProperty}
 use Rattle.xmp_write.specs.Text.{member_text, lines_text, tree_text, open_meta, open_rdf, top_text}
 use Rattle.xmp_write.specs.Prefixes.{spelled}
 use Rattle.round_trip.specs.Elements.{IsElement, AreProperties, IsTree}
-use Rattle.round_trip.proofs.Spelt.{inside, IsSpelt, Anything, spelt_then, spelt_none}
+use Rattle.round_trip.specs.Law.{meta_hint, rdf_hint, declared_hints}
+use Rattle.round_trip.proofs.Spelt.{inside, IsSpeltWith, IsSpelt, Anything, spelt_then, spelt_none}
 use Rattle.round_trip.proofs.Built.{spelt_same}
 use Rattle.round_trip.proofs.Writing.{IsScope, value_made}
 use Rattle.round_trip.proofs.Frames.{line_spelt, before_root, meta_level, rdf_level, top_level, top_scope, meta_start, rdf_start, top_start, about_attribute, meta_end, rdf_end, top_end, frame, lined_between}
@@ -147,7 +148,7 @@ around_is at name inner = record { named = refl; attributed = refl; worded = aro
 pub record MadeTree (ps : List Hint) (about : List ℕ) (props : List Member) (first : Bool) (at : ℕ) : Type 0 where
   pub root : Element
   pub is : IsTree root about props
-  pub spelt : IsSpelt Anything (before_root first) at (tree_text ps about props) (λ es. events (child.Element root) ++ es) (inside [])
+  pub spelt : IsSpeltWith (declared_hints ps) Anything (before_root first) at (tree_text ps about props) (λ es. events (child.Element root) ++ es) (inside [])
 
 pub tree_made : (ps : List Hint) (about : List ℕ) (props : List Member) (before : Bool) (at : ℕ) → IsCharText about → AreDeclarable ps → All (IsProperty ps) props → MadeTree ps about props before at
 tree_made ps about props before at text h each =
@@ -160,23 +161,23 @@ tree_made ps about props before at text h each =
     let es : List Element = body.es in
     let lines_part = spelt_then Anything Anything (inside (t ∷ rdf_level ∷ meta_level ∷ [])) (inside (t ∷ rdf_level ∷ meta_level ∷ [])) (inside (t ∷ rdf_level ∷ meta_level ∷ [])) third (codes "\n") (lines_text ps props)
     (put (codes "\n")) (lines es) (line_spelt t (rdf_level ∷ meta_level ∷ []) third) body.spelt (λ left any. tt) in
-    let topped = frame (inside (rdf_level ∷ meta_level ∷ [])) t (rdf_level ∷ meta_level ∷ []) second d (codes "\n" ++ lines_text ps props) (codes "</rdf:Description>")
+    let topped = frame ps [] (inside (rdf_level ∷ meta_level ∷ [])) t (rdf_level ∷ meta_level ∷ []) second d (codes "\n" ++ lines_text ps props) (codes "</rdf:Description>")
     (Opens second (rdf (codes "Description")) (about_attribute about ∷ [])) (λ x. put (codes "\n") (lines es x))
     (top_start about ps second text h) lines_part (top_end about ps (rdf_level ∷ meta_level ∷ []) (third + length (codes "\n" ++ lines_text ps props))) in
-    let described = frame (inside (meta_level ∷ [])) rdf_level (meta_level ∷ []) first open_rdf
+    let described = frame (rdf_hint ∷ []) (ps ++ []) (inside (meta_level ∷ [])) rdf_level (meta_level ∷ []) first open_rdf
     (codes "\n" ++ ((d ++ ((codes "\n" ++ lines_text ps props) ++ codes "</rdf:Description>")) ++ codes "\n")) (codes "</rdf:RDF>")
     (Opens first (rdf (codes "RDF")) [])
     (λ x. put (codes "\n") (Opens second (rdf (codes "Description")) (about_attribute about ∷ []) ∷ put (codes "\n") (lines es (Closes ∷ put (codes "\n") x))))
     (rdf_start first)
-    (lined_between rdf_level (meta_level ∷ []) (first + length open_rdf) (d ++ ((codes "\n" ++ lines_text ps props) ++ codes "</rdf:Description>"))
+    (lined_between (ps ++ []) rdf_level (meta_level ∷ []) (first + length open_rdf) (d ++ ((codes "\n" ++ lines_text ps props) ++ codes "</rdf:Description>"))
     (λ x. Opens second (rdf (codes "Description")) (about_attribute about ∷ []) ∷ put (codes "\n") (lines es (Closes ∷ x))) topped)
     (rdf_end (meta_level ∷ []) (first + length open_rdf + length (codes "\n" ++ ((d ++ ((codes "\n" ++ lines_text ps props) ++ codes "</rdf:Description>")) ++ codes "\n")))) in
     let r : List ℕ = open_rdf ++ ((codes "\n" ++ ((d ++ ((codes "\n" ++ lines_text ps props) ++ codes "</rdf:Description>")) ++ codes "\n")) ++ codes "</rdf:RDF>") in
-    let whole = frame (before_root before) meta_level [] at open_meta (codes "\n" ++ (r ++ codes "\n")) (codes "</x:xmpmeta>")
+    let whole = frame (meta_hint ∷ []) (rdf_hint ∷ (ps ++ [])) (before_root before) meta_level [] at open_meta (codes "\n" ++ (r ++ codes "\n")) (codes "</x:xmpmeta>")
     (Opens at (record { space = meta_space; local = codes "xmpmeta" }) [])
     (λ x. put (codes "\n") (Opens first (rdf (codes "RDF")) [] ∷ put (codes "\n") (Opens second (rdf (codes "Description")) (about_attribute about ∷ []) ∷ put (codes "\n") (lines es (Closes ∷ put (codes "\n") (Closes ∷ put (codes "\n") x))))))
     (meta_start before at)
-    (lined_between meta_level [] (at + length open_meta) r
+    (lined_between (rdf_hint ∷ (ps ++ [])) meta_level [] (at + length open_meta) r
     (λ x. Opens first (rdf (codes "RDF")) [] ∷ put (codes "\n") (Opens second (rdf (codes "Description")) (about_attribute about ∷ []) ∷ put (codes "\n") (lines es (Closes ∷ put (codes "\n") (Closes ∷ x))))) described)
     (meta_end [] (at + length open_meta + length (codes "\n" ++ (r ++ codes "\n")))) in
     let top : Element = top_of second about es in
@@ -196,7 +197,8 @@ tree_made ps about props before at text h each =
         blank = top_blank second about es;
         listed = subst (λ (x : List Element). AreProperties x props) (sym (top_elements second about es)) body.are;
       };
-      spelt = spelt_same Anything (before_root before) (inside []) at (tree_text ps about props)
+      spelt = subst (λ (x : List Hint). IsSpeltWith (meta_hint ∷ rdf_hint ∷ x) Anything (before_root before) at (tree_text ps about props) (λ x. events (child.Element root) ++ x) (inside [])) (append-nil ps)
+          (spelt_same (meta_hint ∷ rdf_hint ∷ (ps ++ [])) Anything (before_root before) (inside []) at (tree_text ps about props)
           (λ x. Opens at (record { space = meta_space; local = codes "xmpmeta" }) [] ∷ put (codes "\n") (Opens first (rdf (codes "RDF")) [] ∷ put (codes "\n") (Opens second (rdf (codes "Description")) (about_attribute about ∷ []) ∷ put (codes "\n") (lines es (Closes ∷ put (codes "\n") (Closes ∷ put (codes "\n") (Closes ∷ x)))))))
           (λ x. events (child.Element root) ++ x)
           (λ x.
@@ -204,5 +206,5 @@ tree_made ps about props before at text h each =
           (top_events second about es (Words (codes "\n") ∷ Closes ∷ Words (codes "\n") ∷ Closes ∷ x))
           ∙ ap (λ (y : List Event). Opens at (record { space = meta_space; local = codes "xmpmeta" }) [] ∷ Words (codes "\n") ∷ y) (around_events first (rdf (codes "RDF")) top (Words (codes "\n") ∷ Closes ∷ x))
           ∙ around_events at (record { space = meta_space; local = codes "xmpmeta" }) inner x)
-          whole;
+          whole);
     }

@@ -53,7 +53,7 @@ row_more : (P : Element → Type 0) (Q : List Element → Type 0) (l : Level) (l
 row_more P Q l ls at a b h k = record {
   es = h.e ∷ k.es;
   are = (h.e, k.es, refl, h.is, k.are);
-  spelt = spelt_same Anything (inside (l ∷ ls)) (inside (l ∷ ls)) at (a ++ b)
+  spelt = spelt_same [] Anything (inside (l ∷ ls)) (inside (l ∷ ls)) at (a ++ b)
       (λ more. events (child.Element h.e) ++ (joined (map events (map child.Element k.es)) ++ more))
       (λ more. joined (map events (map child.Element (h.e ∷ k.es))) ++ more)
       (λ more. sym (append_assoc (events (child.Element h.e)) (joined (map events (map child.Element k.es))) more))
