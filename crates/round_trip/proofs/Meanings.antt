@@ -1,5 +1,5 @@
 -- What the texts of a tree mean, from their documents.
-use Rattle.std.proofs.Common.{◌≡◌, ◌≢◌, ℕ, false, List, [], ◌∷◌, ◌++◌, length, get_or, take, drop, Option, Some, None, refl, ap, sym, subst, ◌∙◌, arith}
+use Rattle.std.proofs.Common.{◌≡◌, ◌≢◌, ℕ, false, List, [], ◌∷◌, ◌++◌, length, get_or, take, drop, Option, Some, None, Ok, refl, ap, sym, subst, ◌∙◌, arith}
 use Rattle.std.specs.Prelude.{All, position}
 use Rattle.std.proofs.Math.Seq.{take-length}
 use Rattle.std.proofs.lemmas.Bool.{or_from, false_from_ne_true, both_ways}
@@ -15,7 +15,8 @@ use Rattle.xmp_write.specs.Prefixes.{prefixes}
 use Rattle.xmp_write.specs.Text.{canonical_text}
 use Rattle.xmp_write.specs.WrittenPackets.{canonical_packet}
 use Rattle.rdf_forms.specs.Words.{same_name}
-use Rattle.rdf_forms.specs.Merging.{stands_in, first_twice, MergesTo}
+use Rattle.rdf_forms.specs.Meaning.{Meaning}
+use Rattle.rdf_forms.specs.Merging.{both, both_unless, merged, stands_in, first_twice, MergesTo, both_trees}
 use Rattle.rdf_soundness.proofs.Words.{same_name_is}
 use Rattle.round_trip.specs.Law.{IsNote, MayWrite, HasWriting, text_hints, TextMeans, PacketMeans, whole_form, PacketReadsBack, main_form, rest_form, SplitReadsBack}
 use Rattle.round_trip.proofs.Names.{differ_cons}
@@ -96,6 +97,14 @@ parts_merge t k wf =
       merged_is = same_about t.about (take k t.props ++ drop k t.props) t.props whole;
     }
 
+meanings_merge : (main more t : Parts) → MergesTo main more t → (m n : Meaning) → m.tree ≡ main → n.tree ≡ more → (merged m n ≡ Ok (both m n)) × ((both m n).tree ≡ t)
+unfolding merged
+meanings_merge main more t h m n first second = (
+  ap (λ (o : Option ℕ). both_unless o m n)
+      (ap (λ (x : Parts). first_twice x.props n.tree.props) first ∙ ap (λ (x : Parts). first_twice main.props x.props) second ∙ h.apart),
+  ap (λ (x : Parts). both_trees x n.tree) first ∙ ap (both_trees main) second ∙ h.merged_is,
+)
+
 -- ---- the laws
 
 pub packet_reads_back : PacketReadsBack
@@ -109,4 +118,5 @@ split_reads_back t hints k digits len first rest = record {
   packet_means = subst (λ (x : Parts). PacketMeans (canonical_packet t hints (main_form k digits) len) (text_hints t hints (main_form k digits)) x (Some digits)) (first_part t k (Some digits)) (packet_means t hints (main_form k digits) len first);
   text_means = subst (λ (x : Parts). TextMeans (canonical_text t hints (rest_form t k)) (text_hints t hints (rest_form t k)) x None) (last_part t k) (canonical_means t hints (rest_form t k) rest);
   merge = parts_merge t k first.formed;
+  merged_is = meanings_merge (under t.about (take k t.props)) (under t.about (drop k t.props)) t (parts_merge t k first.formed);
 }
