@@ -1,10 +1,11 @@
 //! Small files in both layouts and both byte orders, and one fault of each kind.
-ghost use Rattle.std.specs.Prelude.{◌≤◌, IfOk};
+ghost use Rattle.std.specs.Prelude.{◌≤◌, length, IfOk};
 ghost use Rattle.tiff_dirs.specs.Layouts.{BeginsTiff};
 
-use crate::{Dirs, TiffStop};
+use crate::{Dirs, Entry, TiffStop};
 use std::alloc::{AllocError, Global};
 use std::test::Fail;
+use xmp_base::FileSpan;
 use xmp_values::{Memory, Rule};
 
 /// The two layouts in the two byte orders: whether it is BigTIFF, and whether it is big-endian.
@@ -96,6 +97,59 @@ fn walked(alloc: Global, file: &[u8]) -> Result<Walked, Memory>
     }
 }
 
+/// A directory of two entries, a strip of four bytes behind it and its length, and the strip.
+fn one_strip(alloc: Global, form: (bool, bool)) -> Result<Vec<u8>, AllocError>
+    ensures { IfOk result (λ file. BeginsTiff file.items) }
+{
+    let (wide, _) = form;
+    let (first, strip, long) = if wide { (16, 72, 16) } else { (8, 38, 4) };
+    let mut body = Body::new(alloc, form, first)?;
+    body.count(2)?;
+    body.entry(273, long, 1, strip)?;
+    body.entry(279, long, 1, 4)?;
+    body.word(0)?;
+    body.put(0x5a5a_5a5a, 4)?;
+    body.file(alloc)
+}
+
+/// Walks the first bytes of a file.
+fn walk_front(alloc: Global, file: &[u8], len: usize) -> Result<Walked, Memory>
+    requires begins { BeginsTiff file.now }
+    requires least { 4 ≤ len }
+    requires most { len ≤ length file.now }
+{
+    walked(alloc, &file[..len])
+}
+
+/// Walks a file of so many empty directories, each of which names the next.
+fn walk_chain(alloc: Global, form: (bool, bool), count: u64) -> Result<Walked, Memory>
+    requires { count ≤ 2000 }
+{
+    let (wide, _) = form;
+    let (first, size) = if wide { (16, 16) } else { (8, 6) };
+    let mut body = Body::new(alloc, form, first)?;
+    for k in 1..count {
+        body.count(0)?;
+        body.word(first + size * k)?;
+    }
+    body.count(0)?;
+    body.word(0)?;
+    let file = body.file(alloc)?;
+    walked(alloc, file.as_slice())
+}
+
+/// Walks a BigTIFF of one directory of so many empty entries.
+fn walk_long(alloc: Global, big: bool, count: u64) -> Result<Walked, Memory> {
+    let mut body = Body::new(alloc, (true, big), 16)?;
+    body.count(count)?;
+    for _ in 0..count {
+        body.entry(256, 1, 1, 0)?;
+    }
+    body.word(0)?;
+    let file = body.file(alloc)?;
+    walked(alloc, file.as_slice())
+}
+
 /// Walks a file of one directory of these entries, with zeros behind it.
 fn walk_one(
     alloc: Global,
@@ -103,9 +157,7 @@ fn walk_one(
     entries: &[(u64, u64, u64, u64)],
     next: u64,
     zeros: u32,
-) -> Result<Walked, Memory>
-    requires { zeros ≤ 100 }
-{
+) -> Result<Walked, Memory> {
     let (wide, _) = form;
     let mut body = Body::new(alloc, form, if wide { 16 } else { 8 })?;
     body.count(entries.len() as u64)?;
@@ -213,6 +265,85 @@ fn faults_in_their_order(rt: HostRuntime) -> Result<(), Fail> {
         for (entries, next, zeros, expected) in cases {
             assert_eq!(rt; walk_one(rt.alloc(), form, entries, next, zeros)?, expected);
         }
+    }
+    Ok(())
+}
+
+#[test]
+fn cut_to_a_length(rt: HostRuntime) -> Result<(), Fail> {
+    for form in FORMS {
+        let (wide, _) = form;
+        let (header, whole) = if wide { (16, 76) } else { (8, 42) };
+        let file = one_strip(rt.alloc(), form)?;
+        assert_eq!(rt; file.len(), whole);
+        for len in 4..whole + 1 {
+            let expected = if len < header {
+                Err((Rule::ShortHeader, 0, 0, 0))
+            } else if len < whole - 4 {
+                Err((Rule::DirectoryOut, header as u64, 0, 0))
+            } else if len < whole {
+                Err((Rule::RegionOut, if wide { 24 } else { 10 }, 0, 0))
+            } else {
+                Ok((1, 2, 1))
+            };
+            assert_eq!(rt; walk_front(rt.alloc(), file.as_slice(), len)?, expected);
+        }
+    }
+    Ok(())
+}
+
+#[test]
+fn many_directories(rt: HostRuntime) -> Result<(), Fail> {
+    for form in FORMS {
+        let (wide, _) = form;
+        let last = if wide { 16_016 } else { 6_008 };
+        assert_eq!(rt; walk_chain(rt.alloc(), form, 1_000)?, Ok((1_000, 0, 0)));
+        assert_eq!(rt;
+            walk_chain(rt.alloc(), form, 1_001)?,
+            Err((Rule::TooManyDirectories, last, 0, 0))
+        );
+    }
+    Ok(())
+}
+
+#[test]
+fn many_entries(rt: HostRuntime) -> Result<(), Fail> {
+    for big in [false, true] {
+        assert_eq!(rt; walk_long(rt.alloc(), big, 65_535)?, Ok((1, 65_535, 0)));
+        assert_eq!(rt;
+            walk_long(rt.alloc(), big, 65_536)?,
+            Err((Rule::DirectoryLong, 16, 65_536, 65_535))
+        );
+    }
+    Ok(())
+}
+
+#[test]
+fn entries_and_pictures(rt: HostRuntime) -> Result<(), Fail> {
+    for form in FORMS {
+        let (wide, big) = form;
+        let (first, strip, value, long) = if wide {
+            (24, 72, 36, 16)
+        } else {
+            (10, 38, 18, 4)
+        };
+        let file = one_strip(rt.alloc(), form)?;
+        let dirs = Dirs::walk(rt.alloc(), file.as_slice())?;
+        assert_eq!(rt; dirs.big(), big);
+        assert_eq!(rt; dirs.directories(), 1);
+        assert_eq!(rt; dirs.entries(0), 2);
+        assert_eq!(rt; dirs.pictures(), 1);
+        let span = |start: u64, end: u64| FileSpan { start, end };
+        let entry = Entry {
+            place: first,
+            tag: 273,
+            code: long,
+            count: 1,
+            value: span(value, value + if wide { 8 } else { 4 }),
+        };
+        assert_eq!(rt; dirs.entry(0, 0), entry);
+        assert_eq!(rt; dirs.first_tag(273), Some(entry));
+        assert_eq!(rt; dirs.picture(0), span(strip, strip + 4));
     }
     Ok(())
 }
