@@ -84,7 +84,7 @@ version_row a b c d (digits, some, all, h) (digits', some', all', k) e =
     let r = given_row (codes "version") (codes "1." ++ digits) (codes "1." ++ digits') a b c d (λ rest. letters_bare.0) (version_no_quotes digits all) (version_no_quotes digits' all') h k e in
     (r.1, r.2)
 
--- what may stand behind the encoding
+-- what may stand after the encoding
 abbrev HeadEnds : List ℕ → Type 0
 HeadEnds text = (alone : List ℕ) × (gap : List ℕ) × (more : List ℕ) × IsStandalone alone × AreBlank gap × (text ≡ alone ++ (gap ++ (codes "?>" ++ more)))
 

@@ -1,4 +1,4 @@
--- How a text begins tells the kind of the piece that may stand at its front, so "no piece" is "no comment" behind `<!--`
+-- How a text begins tells the kind of the piece that may stand at its front, so "no piece" is "no comment" after `<!--`
 -- and so on.
 use Rattle.std.proofs.Common.{◌≡◌, ℕ, ◌⊎◌, List, ◌∷◌, ◌++◌, Option, refl, sym, ap, ◌∙◌, inl, inr, arith}
 use Rattle.std.specs.Prelude.{codes}

@@ -47,7 +47,7 @@ abbrev pub placed_run : ℕ → List ℕ → List Placed
 placed_run at [] = []
 placed_run at (c ∷ cs) = (at, Character c) ∷ placed_run (at + width (c ∷ [])) cs
 
--- the nest behind a run
+-- the nest after a run
 abbrev pub behind_run : Nest → List ℕ → Nest
 behind_run s [] = s
 behind_run s (c ∷ cs) = record { first = false; levels = s.levels; rooted = s.rooted }

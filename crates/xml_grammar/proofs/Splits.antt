@@ -114,7 +114,7 @@ twin_end m a c b d (x ∷ y ∷ more) is e lacks =
     absurd (lacks a (more ++ m ∷ []) (ap (λ (t : List ℕ). t ++ m ∷ []) is ∙ append_assoc a (x ∷ y ∷ more) (m ∷ [])
     ∙ ap (λ (t : List ℕ). a ++ t) (cons_same x m (y ∷ (more ++ m ∷ [])) (m ∷ (more ++ m ∷ [])) (sym hx) (cons_same y m (more ++ m ∷ []) (more ++ m ∷ []) (sym hy) refl)) ∙ sym (append_assoc a (m ∷ m ∷ []) (more ++ m ∷ []))))
 
--- what is behind is the same where fronts are
+-- what is after is the same where fronts are
 abbrev Same : List ℕ → List ℕ → List ℕ → List ℕ → Type 0
 Same a c b d = (a ≡ b) × (c ≡ d)
 

@@ -107,7 +107,7 @@ close_row false false c d e = (refl, append_cancel_left (codes ">") c d e)
 close_row true false c d e = let h = head_same 0x2F 0x3E (0x3E ∷ c) d e in absurd (omega arith)
 close_row false true c d e = let h = head_same 0x3E 0x2F c (0x3E ∷ d) e in absurd (omega arith)
 
--- what stands behind a tag's name
+-- what stands after a tag's name
 inside_stops : (xs : List RawAttribute) (inside rest : List ℕ) → SpellsAttributes xs inside → Stops is_qname_char rest → Stops is_qname_char (inside ++ rest)
 inside_stops [] inside rest h s = subst (λ (t : List ℕ). Stops is_qname_char (t ++ rest)) (sym h) s
 inside_stops (x ∷ xs) inside rest (gap, front, back, hg, hf, hb, at) s = subst (λ (t : List ℕ). Stops is_qname_char (t ++ rest)) (sym at) (gap_stops gap hg)
@@ -116,7 +116,7 @@ inside_stops (x ∷ xs) inside rest (gap, front, back, hg, hf, hb, at) s = subst
     gap_stops [] h = absurd h
     gap_stops (c ∷ cs) h = blank_no_qname c (all_head is_blank c cs h)
 
--- a start tag or an empty one, behind `<`
+-- a start tag or an empty one, after `<`
 abbrev pub TagText : Tag → List ℕ → Type 0
 TagText tag text =
     (name : List ℕ) × (inside : List ℕ) × (gap : List ℕ) × SpellsQName tag.name name × SpellsAttributes tag.attributes inside × AreBlank gap

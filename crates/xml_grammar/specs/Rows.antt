@@ -1,5 +1,5 @@
 -- What a reader takes at once: pieces that aren't tags, one after the other. No definition of a document rests on it.
-use Rattle.std.specs.Prelude.{◌≡◌, ℕ, List, [], ◌∷◌, ◌++◌, chars, map}
+use Rattle.std.specs.Prelude.{◌≡◌, ℕ, List, [], ◌∷◌, ◌++◌, chars, map, encode_utf8_all}
 use Rattle.xml_grammar.specs.declared.tokens.Mode.{Mode}
 use Rattle.xml_grammar.specs.declared.tokens.Mode.TheVariants as modes
 use Rattle.xml_grammar.specs.declared.tokens.Token.{Token}
@@ -28,3 +28,8 @@ pieces_of (tokens.End name) = End name ∷ []
 pieces_of (tokens.Reference c) = Reference c ∷ []
 pieces_of tokens.LineEnd = LineEnd ∷ []
 pieces_of (tokens.Run text) = map Character (chars text)
+
+-- the bytes of a run are those of its characters
+abbrev pub IsSpelled : Token → Type 0
+IsSpelled (tokens.Run text) = encode_utf8_all (chars text) ≡ text
+IsSpelled token = Unit {0}

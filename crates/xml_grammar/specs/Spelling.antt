@@ -83,7 +83,7 @@ SpellsEntity c text = (e : Entity) × (c ≡ entity_char e) × (text ≡ codes "
 abbrev pub is_digit : ℕ → ℕ → Bool
 is_digit base c = nat_lt (digit_value c) base
 
--- the number that digits give behind n
+-- the number that digits give after n
 abbrev pub number_from : ℕ → ℕ → List ℕ → ℕ
 number_from base n [] = n
 number_from base n (d ∷ ds) = number_from base (n * base + digit_value d) ds
@@ -135,7 +135,7 @@ abbrev pub SpellsAttribute : RawAttribute → List ℕ → Type 0
 SpellsAttribute a text =
     (name : List ℕ) × (equals : List ℕ) × (value : List ℕ) × SpellsQName a.name name × IsEquals equals × SpellsValue a.value value × (text ≡ name ++ equals ++ value)
 
--- attributes, each behind white space
+-- attributes, each after white space
 abbrev pub SpellsAttributes : List RawAttribute → List ℕ → Type 0
 SpellsAttributes [] text = text ≡ []
 SpellsAttributes (a ∷ others) text =
@@ -165,6 +165,6 @@ IsStandalone text = (text ≡ []) ⊎ SpellsGiven (codes "standalone") (codes "y
 abbrev pub IsTarget : List ℕ → Type 0
 IsTarget name = IsTrue (is_name_of name) × IsFalse (str_eq_ignore_ascii_case name (codes "xml"))
 
--- what stands behind a target, up to `?>` (production 16): nothing, or white space and Chars without `?>`
+-- what stands after a target, up to `?>` (production 16): nothing, or white space and Chars without `?>`
 abbrev pub IsInstructionText : List ℕ → Type 0
 IsInstructionText text = (text ≡ []) ⊎ ((gap : List ℕ) × (body : List ℕ) × IsGap gap × AreChars body × Lacks (codes "?>") body × (text ≡ gap ++ body))

@@ -207,7 +207,7 @@ given_standalone word text rest answer (gap, equals, quote, hg, he, hq, at) =
     let g = given_again (codes "standalone") gap equals (word ++ (quote ∷ rest)) quote bare_standalone hg he hq in
     ap standalone_at split ∙ rw (g, answer (quote ∷ rest)) (after_again (quote ∷ []) rest)
 
--- behind `standalone` or without it, up to the end
+-- after `standalone` or without it, up to the end
 standalone_again : (text gap rest : List ℕ) → IsStandalone text → AreBlank gap → or_here (text ++ (gap ++ (codes "?>" ++ rest))) (standalone_at (text ++ (gap ++ (codes "?>" ++ rest)))) ≡ gap ++ (codes "?>" ++ rest)
 unfolding standalone_at is_blank
 standalone_again text gap rest (inl none) h =
@@ -217,7 +217,7 @@ standalone_again text gap rest (inl none) h =
 standalone_again text gap rest (inr (inl given)) h = rw (given_standalone (codes "yes") text (gap ++ (codes "?>" ++ rest)) (λ behind. refl) given) refl
 standalone_again text gap rest (inr (inr given)) h = rw (given_standalone (codes "no") text (gap ++ (codes "?>" ++ rest)) (λ behind. refl) given) refl
 
--- what stands behind the version begins with no `encoding`
+-- what stands after the version begins with no `encoding`
 no_encoding : (alone gap rest : List ℕ) → IsStandalone alone → AreBlank gap → encoding_at (alone ++ (gap ++ (codes "?>" ++ rest))) ≡ None
 unfolding is_blank
 no_encoding alone gap rest (inl none) h = ap (λ (t : List ℕ). encoding_at (t ++ (gap ++ (codes "?>" ++ rest)))) none ∙ encoding_none gap (codes "?>" ++ rest) h refl refl
@@ -238,7 +238,7 @@ optional_again None named alone gap rest h a b =
     ap (λ (t : List ℕ). optional (t ++ (alone ++ (gap ++ (codes "?>" ++ rest)))) (encoding_at (t ++ (alone ++ (gap ++ (codes "?>" ++ rest)))))) h ∙ rw (no_encoding alone gap rest a b) refl
 optional_again (Some encoding) named alone gap rest h a b = rw (encoding_again encoding named (alone ++ (gap ++ (codes "?>" ++ rest))) h) refl
 
--- ---- the declaration, behind `<?xml`
+-- ---- the declaration, after `<?xml`
 
 abbrev pub TakesDeclaration : List ℕ → Option (List ℕ) × List ℕ → Type 0
 TakesDeclaration cs x = (front : List ℕ) × HeadText x.0 (codes "<?xml" ++ front) × (cs ≡ front ++ x.1)

@@ -15,7 +15,7 @@ use Rattle.xml_tokenizer.specs.Runs.{after, up_to, past, is_ascii}
 use Rattle.xml_tokenizer.proofs.SectionLaws.{Ends, up_to_again, up_to_takes}
 use Rattle.xml_tokenizer.proofs.Words.{word_bytes, word_found, after_takes}
 
--- a word that stands behind a front occurs at the front's length
+-- a word that stands after a front occurs at the front's length
 occurs_behind : (text word a b : List ℕ) → text ≡ a ++ (word ++ b) → OccursAt text word (length a)
 occurs_behind text word a b e =
     let long = ap length e in

@@ -23,7 +23,7 @@ ends_front_again (f ∷ front) more r =
     let k = both (is_not 13 f) (list_all (is_not 13) front) r in
     ends_other f (front ++ more) (not_true (eqb f 13) k.0) ∙ ap (λ (x : List ℕ). f ∷ x) (ends_front_again front more k.1)
 
--- behind CR one LF is passed
+-- after CR one LF is passed
 pub ends_feed : (cs : List ℕ) → line_ends_after true cs ≡ line_ends (past_feed cs)
 ends_feed [] = refl
 ends_feed (c ∷ cs) = by_feed (eqb c 10) refl
@@ -49,7 +49,7 @@ no_returns text u h =
     let none = none_spelled (is_byte 13) return_low (chars text) (ap (list_all (is_not 13)) (encodes-chars text u) ∙ none_passes (is_byte 13) text h) in
     ap line_ends (sym (append-nil (chars text))) ∙ ends_front_again (chars text) [] none ∙ append-nil (chars text)
 
--- the first line of a text with a CR, and the text behind the line's end
+-- the first line of a text with a CR, and the text after the line's end
 pub record FirstLine (text : List ℕ) (at : ℕ) : Type 0 where
   pub front : IsCharBoundary text at
   pub back : IsCharBoundary text (at + 1)

@@ -23,7 +23,7 @@ sure_low : (class : Class) (b : ℕ) → b < 128 → is_sure class b ≡ has cla
 unfolding is_sure
 sure_low class b h = rw (lt-ltb b 128 h) refl
 
--- a byte behind a first one
+-- a byte after a first one
 sure_next : (class : Class) (x : ℕ) → is_wide class ≡ true → is_sure class (128 + x % 64) ≡ true
 sure_next class x w =
     let k : eqb (128 + x % 64) 0xEF ≡ false = ne_eqb (128 + x % 64) 0xEF (λ e. omega arith) in
@@ -43,7 +43,7 @@ wide_has classes.Char c w low h = h
 wide_has classes.Plain c w low h = grind (arith, nat_tests)
 wide_has (classes.Value quote) c w low h = grind (arith, nat_tests)
 
--- the first byte of a character from 128 on, and the bytes behind it
+-- the first byte of a character from 128 on, and the bytes after it
 pub record Wide (class : Class) (c : ℕ) : Type 0 where
   pub first : ℕ
   pub more : List ℕ
@@ -144,7 +144,7 @@ pub scalars_before : (front rest : List ℕ) → all_scalars (front ++ rest) ≡
 scalars_before [] rest h = refl
 scalars_before (c ∷ front) rest h = let k = both (scalar c) (all_scalars (front ++ rest)) h in rw (k.0) (scalars_before front rest k.1)
 
--- what is left behind the bytes that are sure
+-- what is left after the bytes that are sure
 pub record Skips (class : Class) (text : List ℕ) (n : ℕ) : Type 0 where
   pub boundary : IsCharBoundary text n
   pub passes : Passes (has class) text (drop n text)

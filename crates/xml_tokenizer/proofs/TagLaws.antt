@@ -222,7 +222,7 @@ inside_stops (x ∷ xs) inside rest (gap, front, back, hg, hf, hb, at) s = subst
     gap_stops [] h = absurd h
     gap_stops (c ∷ cs) h = blank_no_qname c (all_head is_blank c cs h)
 
--- behind `<`
+-- after `<`
 pub start_again : (tag : Tag) (name inside gap rest : List ℕ) → SpellsQName tag.name name → SpellsAttributes tag.attributes inside → AreBlank gap
     → start_at (name ++ (inside ++ (gap ++ (tag_close tag.empty ++ rest)))) ≡ Some (tag, rest)
 unfolding start_at
@@ -254,7 +254,7 @@ end_takes cs x e =
     regroup : (a b c : List ℕ) → a ++ (b ++ (62 ∷ c)) ≡ (a ++ b ++ codes ">") ++ c
     regroup a b c = simp append_assoc
 
--- behind `</`
+-- after `</`
 pub end_again : (end_name : QName) (name gap rest : List ℕ) → SpellsQName end_name name → AreBlank gap → end_at (name ++ (gap ++ (62 ∷ rest))) ≡ Some (end_name, rest)
 unfolding end_at
 end_again end_name name gap rest hn blank =

@@ -16,7 +16,7 @@ use Rattle.xml_grammar.specs.declared.tokens.Token.{Token}
 use Rattle.xml_grammar.specs.declared.tokens.Token.TheVariants as tokens
 use Rattle.xml_grammar.specs.Spelling.{BeginsWith, line_ends}
 use Rattle.xml_grammar.specs.Pieces.{Piece, Declaration, Instruction, Comment, Cdata, Start, End, Reference, LineEnd, Character, Spells, Fits, HasPiece, tag_close}
-use Rattle.xml_grammar.specs.Rows.{StandsRow, later, pieces_of}
+use Rattle.xml_grammar.specs.Rows.{StandsRow, later, pieces_of, IsSpelled}
 use Rattle.xml_grammar.proofs.Splits.{both, both_again, cons_same, head_same, tail_same, not_both}
 use Rattle.xml_grammar.proofs.Parts.{apart, qname_starts}
 use Rattle.xml_tokenizer.specs.Classes.{is_plain}
@@ -283,6 +283,78 @@ token_takes mode (c ∷ cs) x e = by_less (eqb c 60) refl e
     by_less : (v : Bool) → eqb c 60 ≡ v → cond v (markup_at (is_start mode) cs) (cond (eqb c 38) (reference_at cs >>= λ y. Some (tokens.Reference y.0, y.1)) (cond (eqb c 13) (Some (tokens.LineEnd, past_feed cs)) (run_at (is_inside mode) (c ∷ cs)))) ≡ Some x → TakesToken mode (c ∷ cs) x
     by_less true h k = at_char 60 h (markup_takes mode cs x k)
     by_less false h k = by_amp (eqb c 38) refl k
+
+-- ---- a run that is read is spelled
+
+spelled_as : (y x : Token × List ℕ) → Some y ≡ Some x → IsSpelled y.0 → IsSpelled x.0
+spelled_as y x e h = subst (λ (z : Token × List ℕ). IsSpelled z.0) (some_is y x e) h
+
+bound_spelled : {A : Type 0} (r : Option A) (f : A → Token × List ℕ) (x : Token × List ℕ) → ((a : A) → IsSpelled (f a).0) → (r >>= λ y. Some (f y)) ≡ Some x → IsSpelled x.0
+bound_spelled None f x h e = absurd cc
+bound_spelled (Some a) f x h e = spelled_as (f a) x e (h a)
+
+or_spelled : (r s : Option (Token × List ℕ)) (x : Token × List ℕ) → (r ≡ Some x → IsSpelled x.0) → (s ≡ Some x → IsSpelled x.0) → or_else r s ≡ Some x → IsSpelled x.0
+or_spelled (Some y) s x f g e = f e
+or_spelled None s x f g e = g e
+
+declared_spelled : (start : Bool) (o : Option (List ℕ)) (x : Token × List ℕ) → declared_at start o ≡ Some x → IsSpelled x.0
+declared_spelled true (Some rest) x e = bound_spelled (declaration_at rest) (λ y. (tokens.Declaration y.0, y.1)) x (λ a. tt) e
+declared_spelled true None x e = absurd cc
+declared_spelled false o x e = absurd cc
+
+section_spelled : (cs : List ℕ) (o : Option (List ℕ)) (x : Token × List ℕ) → comment_or cs o ≡ Some x → IsSpelled x.0
+section_spelled cs (Some rest) x e = bound_spelled (comment_at rest) (λ y. (tokens.Comment, y)) x (λ a. tt) e
+section_spelled cs None x e = by (after (codes "[CDATA[") cs) e
+  where
+    by : (o : Option (List ℕ)) → (o >>= λ rest. cdata_at rest >>= λ y. Some (tokens.Cdata y.0, y.1)) ≡ Some x → IsSpelled x.0
+    by (Some rest) e = bound_spelled (cdata_at rest) (λ y. (tokens.Cdata y.0, y.1)) x (λ a. tt) e
+    by None e = absurd cc
+
+markup_spelled : (start : Bool) (cs : List ℕ) (x : Token × List ℕ) → markup_at start cs ≡ Some x → IsSpelled x.0
+unfolding markup_at question_at
+markup_spelled start [] x e = absurd cc
+markup_spelled start (c ∷ cs) x e = by_slash (eqb c 47) e
+  where
+    question : or_else (declared_at start (after (codes "xml") cs)) (instruction_at cs >>= λ rest. Some (tokens.Instruction, rest)) ≡ Some x → IsSpelled x.0
+    question h =
+        or_spelled (declared_at start (after (codes "xml") cs)) (instruction_at cs >>= λ rest. Some (tokens.Instruction, rest)) x
+        (declared_spelled start (after (codes "xml") cs) x) (bound_spelled (instruction_at cs) (λ rest. (tokens.Instruction, rest)) x (λ a. tt)) h
+
+    by_bang : (v : Bool) → cond v (section_at cs) (start_at (c ∷ cs) >>= λ y. Some (tokens.Start y.0, y.1)) ≡ Some x → IsSpelled x.0
+    by_bang true h = section_spelled cs (after (codes "--") cs) x h
+    by_bang false h = bound_spelled (start_at (c ∷ cs)) (λ y. (tokens.Start y.0, y.1)) x (λ a. tt) h
+
+    by_question : (v : Bool) → cond v (question_at start cs) (cond (eqb c 33) (section_at cs) (start_at (c ∷ cs) >>= λ y. Some (tokens.Start y.0, y.1))) ≡ Some x → IsSpelled x.0
+    by_question true h = question h
+    by_question false h = by_bang (eqb c 33) h
+
+    by_slash : (v : Bool) → cond v (end_at cs >>= λ y. Some (tokens.End y.0, y.1)) (cond (eqb c 63) (question_at start cs) (cond (eqb c 33) (section_at cs) (start_at (c ∷ cs) >>= λ y. Some (tokens.Start y.0, y.1)))) ≡ Some x → IsSpelled x.0
+    by_slash true h = bound_spelled (end_at cs) (λ y. (tokens.End y.0, y.1)) x (λ a. tt) h
+    by_slash false h = by_question (eqb c 63) h
+
+run_spelled : (inside : Bool) (cs : List ℕ) (x : Token × List ℕ) → run_at inside cs ≡ Some x → IsSpelled x.0
+unfolding run_at
+run_spelled inside cs x e =
+    let front : List ℕ = plain_front inside cs in
+    let g = passed (starts_plain inside cs) (Some (tokens.Run (encode_utf8_all front), plain_back inside cs)) x e in
+    spelled_as (tokens.Run (encode_utf8_all front), plain_back inside cs) x g.1 (ap encode_utf8_all (chars-encodes front (plain_scalars front (plain_front_all inside cs))))
+
+pub token_spelled : (mode : Mode) (cs : List ℕ) (x : Token × List ℕ) → token_at mode cs ≡ Some x → IsSpelled x.0
+unfolding token_at
+token_spelled mode [] x e = absurd cc
+token_spelled mode (c ∷ cs) x e = by_less (eqb c 60) e
+  where
+    by_return : (v : Bool) → cond v (Some (tokens.LineEnd, past_feed cs)) (run_at (is_inside mode) (c ∷ cs)) ≡ Some x → IsSpelled x.0
+    by_return true h = spelled_as (tokens.LineEnd, past_feed cs) x h tt
+    by_return false h = run_spelled (is_inside mode) (c ∷ cs) x h
+
+    by_amp : (v : Bool) → cond v (reference_at cs >>= λ y. Some (tokens.Reference y.0, y.1)) (cond (eqb c 13) (Some (tokens.LineEnd, past_feed cs)) (run_at (is_inside mode) (c ∷ cs))) ≡ Some x → IsSpelled x.0
+    by_amp true h = bound_spelled (reference_at cs) (λ y. (tokens.Reference y.0, y.1)) x (λ a. tt) h
+    by_amp false h = by_return (eqb c 13) h
+
+    by_less : (v : Bool) → cond v (markup_at (is_start mode) cs) (cond (eqb c 38) (reference_at cs >>= λ y. Some (tokens.Reference y.0, y.1)) (cond (eqb c 13) (Some (tokens.LineEnd, past_feed cs)) (run_at (is_inside mode) (c ∷ cs)))) ≡ Some x → IsSpelled x.0
+    by_less true h = markup_spelled (is_start mode) cs x h
+    by_less false h = by_amp (eqb c 38) h
 
 -- ---- where a piece stands something is read
 

@@ -101,7 +101,7 @@ ends_nil (c ∷ cs) e = by_test (eqb c 13) e
     by_test true h = absurd cc
     by_test false h = absurd cc
 
--- behind CR a text that LF doesn't begin is read as ever
+-- after CR a text that LF doesn't begin is read as ever
 ends_behind : (cs : List ℕ) → past_feed cs ≡ cs → line_ends_after true cs ≡ line_ends cs
 ends_behind cs e = ends_feed cs ∙ ap line_ends e
 

@@ -11,7 +11,7 @@ use Rattle.xml_tokenizer.specs.Values.{equals_at, quote_at}
 unfoldable pub given_at : List ℕ → List ℕ → Option (ℕ × List ℕ)
 given_at word cs = if starts_blank cs then (after word (past is_blank cs) >>= λ x. equals_at x >>= λ y. quote_at y) else None
 
--- a run, not empty, and the quote behind it
+-- a run, not empty, and the quote after it
 unfoldable pub quoted_run_at : (ℕ → Bool) → ℕ → List ℕ → Option (List ℕ × List ℕ)
 quoted_run_at p quote cs =
     if starts_with p cs then (after (quote ∷ []) (past p cs) >>= λ rest. Some (encode_utf8_all (taken p cs), rest)) else None
@@ -41,7 +41,7 @@ abbrev pub or_here : List ℕ → Option (List ℕ) → List ℕ
 or_here cs None = cs
 or_here cs (Some rest) = rest
 
--- behind `<?xml`: the encoding that is named
+-- after `<?xml`: the encoding that is named
 unfoldable pub declaration_at : List ℕ → Option (Option (List ℕ) × List ℕ)
 declaration_at cs = version_at cs >>= λ x.
     let named = optional x (encoding_at x) in

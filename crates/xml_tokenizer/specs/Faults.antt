@@ -4,7 +4,7 @@ use Rattle.xmp_values.specs.declared.rules.Rule.{Rule}
 use Rattle.xmp_values.specs.declared.rules.Rule.TheVariants.{BadChar, Doctype, BadReference, BadTag, BadComment, BadInstruction, BadCdata, Unfinished}
 use Rattle.xml_tokenizer.specs.Runs.{begins}
 
--- behind `<`
+-- after `<`
 unfoldable pub markup_rule : List ℕ → Rule
 markup_rule cs =
     if begins (codes "!DOCTYPE") cs then Doctype

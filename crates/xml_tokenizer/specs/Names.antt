@@ -13,7 +13,7 @@ starts_name (c ∷ cs) = is_name_start c
 unfoldable pub name_at : List ℕ → Option (List ℕ × List ℕ)
 name_at cs = if starts_name cs then Some (encode_utf8_all (taken is_name_char cs), past is_name_char cs) else None
 
--- behind a name: a colon and a second name, or neither
+-- after a name: a colon and a second name, or neither
 abbrev pub local_at : List ℕ → List ℕ → Option (List ℕ) → Option (QName × List ℕ)
 local_at name cs None = Some (record { prefix = None; local = name }, cs)
 local_at name cs (Some rest) = name_at rest >>= λ x. Some (record { prefix = Some name; local = x.0 }, x.1)

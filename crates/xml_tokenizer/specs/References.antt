@@ -1,4 +1,4 @@
--- Reading references (XML 1.0, section 4.1), each behind its `&`.
+-- Reading references (XML 1.0, section 4.1), each after its `&`.
 use Rattle.std.specs.Prelude.{ℕ, ◌+◌, ◌*◌, min, Bool, false, ◌&&◌, List, [], ◌∷◌, Option, None, Some, codes, if◌then◌else◌}
 use Rattle.std.specs.Char.{digit_value}
 use Rattle.xmp_values.specs.Characters.{is_char}
@@ -20,7 +20,7 @@ entity_at cs =
 abbrev pub no_char : ℕ
 no_char = 0x110000
 
--- the number that digits give behind n, or no_char where it is greater
+-- the number that digits give after n, or no_char where it is greater
 abbrev pub capped_from : ℕ → ℕ → List ℕ → ℕ
 capped_from base n [] = n
 capped_from base n (d ∷ ds) = capped_from base (min (n * base + digit_value d) no_char) ds

@@ -18,7 +18,7 @@ abbrev pub starts_with : (ℕ → Bool) → List ℕ → Bool
 starts_with p [] = false
 starts_with p (c ∷ cs) = p c
 
--- a front of characters that pass was left behind
+-- the text without a front of characters that pass
 abbrev pub Passes : (ℕ → Bool) → List ℕ → List ℕ → Type 0
 Passes p text rest = (front : List ℕ) × IsTrue (list_all p front) × (text ≡ encode_utf8_all front ++ rest) × (chars text ≡ front ++ chars rest)
 

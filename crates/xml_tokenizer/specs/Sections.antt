@@ -7,11 +7,11 @@ use Rattle.xml_tokenizer.specs.Names.{name_at}
 use Rattle.xml_tokenizer.specs.Runs.{after, up_to}
 use Rattle.xml_tokenizer.specs.Steps.{◌>>=◌}
 
--- behind `<!--`
+-- after `<!--`
 unfoldable pub comment_at : List ℕ → Option (List ℕ)
 comment_at cs = up_to (codes "--") cs >>= λ x. after (codes ">") x.1
 
--- behind `<![CDATA[`: the bytes that the section stands for
+-- after `<![CDATA[`: the bytes that the section stands for
 unfoldable pub cdata_at : List ℕ → Option (List ℕ × List ℕ)
 cdata_at cs = up_to (codes "]]>") cs >>= λ x. Some (encode_utf8_all (line_ends x.0), x.1)
 
@@ -19,12 +19,12 @@ abbrev pub starts_blank : List ℕ → Bool
 starts_blank [] = false
 starts_blank (c ∷ cs) = is_blank c
 
--- behind an instruction's target
+-- after an instruction's target
 abbrev pub body_at : List ℕ → Option (List ℕ) → Option (List ℕ)
 body_at cs (Some rest) = Some rest
 body_at cs None = if starts_blank cs then (up_to (codes "?>") cs >>= λ x. Some x.1) else None
 
--- behind `<?`
+-- after `<?`
 unfoldable pub instruction_at : List ℕ → Option (List ℕ)
 instruction_at cs = name_at cs >>= λ x.
     if str_eq_ignore_ascii_case x.0 (codes "xml") then None else body_at x.1 (after (codes "?>") x.1)

@@ -1,4 +1,4 @@
--- What is left behind a token, and why there is none at a place.
+-- What is left after a token, and why there is none at a place.
 use Rattle.std.specs.Prelude.{◌≡◌, ◌≢◌, ◌<◌, ℕ, List, [], ◌++◌, length}
 use Rattle.xml_grammar.specs.declared.tokens.Mode.{Mode}
 use Rattle.xml_grammar.specs.Documents.{IsRule}
@@ -10,6 +10,6 @@ use Rattle.xmp_values.specs.declared.rules.Rule.{Rule}
 abbrev pub IsRuleIn : Mode → List ℕ → Rule → Type 0
 IsRuleIn mode cs r = (HasPiece mode cs → ⊥) × (cs ≢ [] → (s : Nest) → mode_of s ≡ mode → IsRule s cs r)
 
--- the rest is what is left behind a front of the text, of one byte at least
+-- the rest is what is left after a front of the text, of one byte at least
 abbrev pub IsBehind : List ℕ → List ℕ → Type 0
 IsBehind text rest = (front : List ℕ) × (text ≡ front ++ rest) × (0 < length front)

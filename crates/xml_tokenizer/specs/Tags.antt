@@ -22,7 +22,7 @@ abbrev pub closes : List ℕ → Bool
 closes [] = false
 closes (c ∷ cs) = c == 62 || c == 47
 
--- attributes, each behind white space, up to a tag's end
+-- attributes, each after white space, up to a tag's end
 unfoldable pub attributes_at : ℕ → List ℕ → Option (List RawAttribute × List ℕ)
 attributes_at zero cs = None
 attributes_at (suc n) cs =
@@ -42,7 +42,7 @@ empty_at cs None = after (codes ">") cs >>= λ rest. Some (false, rest)
 unfoldable pub close_at : List ℕ → Option (Bool × List ℕ)
 close_at cs = empty_at cs (after (codes "/>") cs)
 
--- behind `<`
+-- after `<`
 unfoldable pub start_at : List ℕ → Option (Tag × List ℕ)
 start_at cs = do
   name ← qname_at cs
@@ -50,7 +50,7 @@ start_at cs = do
   end ← close_at attributes.1
   Some (record { name = name.0; attributes = attributes.0; empty = end.0 }, end.1)
 
--- behind `</`
+-- after `</`
 unfoldable pub end_at : List ℕ → Option (QName × List ℕ)
 end_at cs = do
   name ← qname_at cs

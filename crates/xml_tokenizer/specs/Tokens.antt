@@ -23,13 +23,13 @@ is_inside modes.Start = false
 is_inside modes.Outside = false
 is_inside modes.Inside = true
 
--- behind `<?xml`, at the text's start
+-- after `<?xml`, at the text's start
 abbrev pub declared_at : Bool → Option (List ℕ) → Option (Token × List ℕ)
 declared_at true (Some rest) = declaration_at rest >>= λ x. Some (tokens.Declaration x.0, x.1)
 declared_at true None = None
 declared_at false found = None
 
--- behind `<?`
+-- after `<?`
 unfoldable pub question_at : Bool → List ℕ → Option (Token × List ℕ)
 question_at start cs = or_else (declared_at start (after (codes "xml") cs)) (instruction_at cs >>= λ rest. Some (tokens.Instruction, rest))
 
@@ -37,11 +37,11 @@ abbrev pub comment_or : List ℕ → Option (List ℕ) → Option (Token × List
 comment_or cs (Some rest) = comment_at rest >>= λ x. Some (tokens.Comment, x)
 comment_or cs None = after (codes "[CDATA[") cs >>= λ rest. cdata_at rest >>= λ x. Some (tokens.Cdata x.0, x.1)
 
--- behind `<!`
+-- after `<!`
 abbrev pub section_at : List ℕ → Option (Token × List ℕ)
 section_at cs = comment_or cs (after (codes "--") cs)
 
--- behind `<`
+-- after `<`
 unfoldable pub markup_at : Bool → List ℕ → Option (Token × List ℕ)
 markup_at start [] = None
 markup_at start (c ∷ cs) =

@@ -39,6 +39,6 @@ tail_at zero quote cs = None
 tail_at (suc n) quote cs = ended (after (quote ∷ []) cs) (special_at cs >>= λ s.
     with_front (encode_utf8 s.0 ++ encode_utf8_all (taken (is_value quote) s.1)) (tail_at n quote (past (is_value quote) s.1)))
 
--- a value behind its first quote, up to its second
+-- a value after its first quote, up to its second
 unfoldable pub value_at : ℕ → List ℕ → Option (List ℕ × List ℕ)
 value_at quote cs = with_front (encode_utf8_all (taken (is_value quote) cs)) (tail_at (width cs) quote (past (is_value quote) cs))

@@ -28,7 +28,7 @@ fn given_of<'p>(word: &str, text: &'p str) -> Result<(char, &'p str), Miss>
     quote_of(rest)
 }
 
-/// A run, not empty, and the quote behind it.
+/// A run, not empty, and the quote after it.
 #[tactic(auto, unfolding(crate::specs::Declarations::quoted_run_at))]
 fn quoted_run(class: Class, quote: char, text: &str) -> Result<(&str, &str), Miss>
     ensures { Gives (λ x. (x.0.now, chars x.1.now)) result (quoted_run_at (classes.has class) quote (chars text.now)) }
@@ -99,7 +99,7 @@ fn optional_standalone(text: &str) -> Result<&str, Miss>
     }
 }
 
-/// The encoding that a declaration names, behind its `<?xml`.
+/// The encoding that a declaration names, after its `<?xml`.
 #[tactic(auto, unfolding(crate::specs::Declarations::declaration_at))]
 pub fn declaration_of(text: &str) -> Result<(Option<Text<'_>>, &str), Miss>
     ensures { Gives (λ x. (x.0, chars x.1.now)) result (declaration_at (chars text.now)) }

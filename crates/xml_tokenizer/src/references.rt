@@ -95,7 +95,7 @@ fn char_of(number: u32) -> Option<char>
     }
 }
 
-/// The reference behind its `&`, as the character that it stands for.
+/// The reference after its `&`, as the character that it stands for.
 #[tactic(auto, unfolding(crate::specs::References::reference_at))]
 pub fn reference_of(text: &str) -> Result<(char, &str), Miss>
     ensures { Gives (λ x. (x.0, chars x.1.now)) result (reference_at (chars text.now)) }

@@ -13,7 +13,7 @@ use crate::stops::Miss;
 use std::alloc::Global;
 use xmp_values::{Text, is_blank};
 
-/// A comment behind its `<!--`.
+/// A comment after its `<!--`.
 #[tactic(auto, unfolding(crate::specs::Sections::comment_at, xmp_values::specs::Characters::is_char))]
 pub fn past_comment(text: &str) -> Result<&str, Miss>
     ensures { Gives (λ x. chars x.now) result (comment_at (chars text.now)) }
@@ -22,7 +22,7 @@ pub fn past_comment(text: &str) -> Result<&str, Miss>
     after(">", rest)
 }
 
-/// A CDATA section behind its `<![CDATA[`.
+/// A CDATA section after its `<![CDATA[`.
 #[tactic(auto, unfolding(crate::specs::Sections::cdata_at, xmp_values::specs::Characters::is_char))]
 pub fn cdata_of(alloc: Global, text: &str) -> Result<(Text<'_>, &str), Miss>
     ensures { Gives (λ x. (x.0, chars x.1.now)) result (cdata_at (chars text.now)) }
@@ -41,7 +41,7 @@ pub fn starts_blank(text: &str) -> bool
     }
 }
 
-/// An instruction behind its `<?`.
+/// An instruction after its `<?`.
 #[tactic(auto, unfolding(crate::specs::Sections::instruction_at, xmp_values::specs::Characters::is_char))]
 pub fn past_instruction(text: &str) -> Result<&str, Miss>
     ensures { Gives (λ x. chars x.now) result (instruction_at (chars text.now)) }

@@ -65,7 +65,7 @@ fn close_of(text: &str) -> Result<(bool, &str), Miss>
     Ok((false, rest))
 }
 
-/// A start tag or an empty one behind its `<`.
+/// A start tag or an empty one after its `<`.
 #[tactic(auto, unfolding(crate::specs::Tags::start_at))]
 pub fn start_of(alloc: Global, text: &str) -> Result<(Tag<'_>, &str), Miss>
     ensures { Gives (λ x. (x.0, chars x.1.now)) result (start_at (chars text.now)) }
@@ -81,7 +81,7 @@ pub fn start_of(alloc: Global, text: &str) -> Result<(Tag<'_>, &str), Miss>
     Ok((tag, rest))
 }
 
-/// An end tag behind its `</`.
+/// An end tag after its `</`.
 #[tactic(auto, unfolding(crate::specs::Tags::end_at))]
 pub fn end_of(text: &str) -> Result<(QName<'_>, &str), Miss>
     ensures { Gives (λ x. (x.0, chars x.1.now)) result (end_at (chars text.now)) }

@@ -31,7 +31,7 @@ pub fn text_of(bytes: &[u8]) -> Result<&str, (Rule, u64)>
     }
 }
 
-/// The text behind one U+FEFF at its start.
+/// The text after one U+FEFF at its start.
 pub fn behind_mark(text: &str) -> &str
     ensures { chars result.now ≡ behind_mark (chars text.now) }
 {

@@ -4,7 +4,7 @@ ghost use Rattle.std.specs.Prelude.{◌≡◌, ◌≢◌, [], IfOk, IfErr, encod
 ghost use Rattle.std.specs.Str.{chars};
 ghost use Rattle.xmp_values.specs.Stops.{Stops, rule_of};
 ghost use Rattle.xmp_values.specs.declared.rules.Rule.TheVariants.{Unfinished};
-ghost use Rattle.xml_grammar.specs.Rows.{StandsRow, pieces_of};
+ghost use Rattle.xml_grammar.specs.Rows.{StandsRow, pieces_of, IsSpelled};
 ghost use Rattle.xml_tokenizer.specs.Faults.{markup_rule, rule_at};
 ghost use Rattle.xml_tokenizer.specs.Stands.{IsRuleIn, IsBehind};
 ghost use Rattle.xml_tokenizer.specs.Tokens.{is_start, is_inside, question_at, section_at, markup_at, plain_front, plain_back, run_at, token_at};
@@ -34,7 +34,7 @@ fn is_inside(mode: Mode) -> bool
     matches!(mode, Mode::Inside)
 }
 
-/// Behind `<?`.
+/// After `<?`.
 #[tactic(auto, unfolding(crate::specs::Tokens::question_at))]
 fn question_of(start: bool, text: &str) -> Result<(Token<'_>, &str), Miss>
     ensures { Gives (λ x. (x.0, chars x.1.now)) result (question_at start (chars text.now)) }
@@ -52,7 +52,7 @@ fn question_of(start: bool, text: &str) -> Result<(Token<'_>, &str), Miss>
     Ok((Token::Instruction, rest))
 }
 
-/// Behind `<!`.
+/// After `<!`.
 fn section_of(alloc: Global, text: &str) -> Result<(Token<'_>, &str), Miss>
     ensures { Gives (λ x. (x.0, chars x.1.now)) result (section_at (chars text.now)) }
 {
@@ -65,7 +65,7 @@ fn section_of(alloc: Global, text: &str) -> Result<(Token<'_>, &str), Miss>
     Ok((Token::Cdata(data), rest))
 }
 
-/// Behind `<`.
+/// After `<`.
 #[tactic(auto, unfolding(crate::specs::Tokens::markup_at))]
 fn markup_of(alloc: Global, start: bool, text: &str) -> Result<(Token<'_>, &str), Miss>
     ensures { Gives (λ x. (x.0, chars x.1.now)) result (markup_at start (chars text.now)) }
@@ -166,6 +166,8 @@ pub fn token_of(alloc: Global, mode: Mode, text: &str) -> Result<(Token<'_>, &st
     ensures stands { IfOk result (λ x. StandsRow mode (pieces_of x.0) (chars text.now) (chars x.1.now)) }
     // It has one piece at least, and takes one byte at least.
     ensures some { IfOk result (λ x. (pieces_of x.0 ≢ []) × IsBehind text.now x.1.now) }
+    // The bytes of a run are those of its characters.
+    ensures spelled { IfOk result (λ x. IsSpelled x.0) }
     // Without a token no piece stands there, and the rule goes by what the text begins with.
     ensures fault { IfErr result (λ e. Stops rule_of e (IsRuleIn mode (chars text.now))) }
     // At the end of the text the rule is `Unfinished`.

@@ -82,7 +82,7 @@ fn tail_of<'p>(
     Err(Miss::Nothing)
 }
 
-/// A value behind its first quote, up to its second.
+/// A value after its first quote, up to its second.
 #[tactic(auto, unfolding(crate::specs::Values::value_at))]
 pub fn value_of(alloc: Global, quote: char, text: &str) -> Result<(Text<'_>, &str), Miss>
     ensures { Gives (λ x. (x.0, chars x.1.now)) result (value_at quote (chars text.now)) }

@@ -1,33 +1,29 @@
 -- Every text has a document or a first fault: going from token to token ends with one of them.
-use Rattle.std.proofs.Common.{◌≡◌, ◌≢◌, ◌⊎◌, ℕ, ◌+◌, ◌-◌, ◌<◌, ◌≤◌, suc, zero, Bool, true, false, eqb, ◌&&◌, List, [], ◌∷◌, length, map, Option, Some, None, Result, Ok, Err, refl, sym, ap, subst, ◌∙◌, length-append, inl, inr, arith}
-use Rattle.std.specs.Prelude.{chars, encode_utf8_all}
-use Rattle.std.specs.Str.{IsUtf8, is_utf8, all_scalars}
+use Rattle.std.proofs.Common.{◌≡◌, ◌≢◌, ◌⊎◌, ℕ, ◌+◌, ◌-◌, ◌<◌, ◌≤◌, suc, zero, Bool, true, false, eqb, ◌&&◌, List, [], ◌∷◌, length, Option, Some, None, Result, Ok, Err, refl, ap, ◌∙◌, length-append, inl, inr, arith}
+use Rattle.std.specs.Prelude.{chars}
+use Rattle.std.specs.Str.{IsUtf8, is_utf8}
 use Rattle.std.specs.Str.Lossy.{utf8_valid_len}
 use Rattle.std.proofs.lemmas.Bool.{eqb-true}
-use Rattle.std.proofs.lemmas.Bool.Decides.{nat_tests}
-use Rattle.std.proofs.lemmas.Str.{chars-encodes, IsUtf8-from_is_utf8, is_utf8-from_IsUtf8}
-use lib.Utf8.{scalar}
-use Rattle.xmp_values.specs.Characters.{is_char}
+use Rattle.std.proofs.lemmas.Str.{IsUtf8-from_is_utf8, is_utf8-from_IsUtf8}
 use Rattle.xmp_values.specs.declared.hints.Hint.{Hint}
 use Rattle.xmp_values.specs.declared.rules.Rule.{Rule}
 use Rattle.xmp_values.specs.declared.rules.Rule.TheVariants.{Utf16, NotUtf8}
 use Rattle.xml_grammar.specs.declared.elements.Element.{Element}
 use Rattle.xml_grammar.specs.declared.tokens.Mode.{Mode}
 use Rattle.xml_grammar.specs.declared.tokens.Token.{Token}
-use Rattle.xml_grammar.specs.declared.tokens.Token.TheVariants as tokens
-use Rattle.xml_grammar.specs.Pieces.{Piece, Character}
-use Rattle.xml_grammar.specs.Rows.{StandsRow, later, pieces_of}
+use Rattle.xml_grammar.specs.Pieces.{Piece}
+use Rattle.xml_grammar.specs.Rows.{StandsRow, later, pieces_of, IsSpelled}
 use Rattle.xml_grammar.specs.Nesting.{mode_of}
 use Rattle.xml_grammar.specs.Documents.{width, behind_mark, IsDocument, IsUtf16, IsFault}
 use Rattle.xml_grammar.proofs.OnePiece.{stands_some}
-use Rattle.xml_grammar.proofs.Splits.{both, both_again, not_both}
+use Rattle.xml_grammar.proofs.Splits.{both, not_both}
 use Rattle.xml_tokenizer.specs.Faults.{rule_at}
 use Rattle.xml_tokenizer.specs.Tokens.{token_at}
 use Rattle.xml_tokenizer.proofs.FaultLaws.{fails_by}
-use Rattle.xml_tokenizer.proofs.TokenLaws.{token_takes, token_none}
+use Rattle.xml_tokenizer.proofs.TokenLaws.{token_takes, token_spelled, token_none}
 use Rattle.xmp_xml.specs.declared.builder.Builder.{Builder}
 use Rattle.xmp_xml.specs.Building.{start, nest_of}
-use Rattle.xmp_xml.specs.Document.{Fault, Contents, token_step, IsSpelled, Takes, finish}
+use Rattle.xmp_xml.specs.Document.{Fault, Contents, token_step, Takes, finish}
 use Rattle.xmp_xml.proofs.Reached.{Reached}
 use Rattle.xmp_xml.proofs.Starts.{reached_start}
 use Rattle.xmp_xml.proofs.Documents.{reached_next, document_from}
@@ -36,42 +32,10 @@ use Rattle.xmp_xml.proofs.Faults.{fault_at_end, fault_from}
 abbrev pub IsDecided : List ℕ → Type 0
 IsDecided text = ((root : Element) × (hints : List Hint) × IsDocument text root hints) ⊎ ((r : Rule) × (place : ℕ) × IsFault text r place)
 
--- ---- a token whose run is spelled
+-- ---- a token
 
-char_scalar : (c : ℕ) → is_char c ≡ true → scalar c ≡ true
-unfolding is_char
-char_scalar c h = grind (arith, nat_tests)
-
-row_scalars : (mode : Mode) (xs text left : List ℕ) → StandsRow mode (map Character xs) text left → all_scalars xs ≡ true
-row_scalars mode [] text left h = refl
-row_scalars mode (x ∷ xs) text left (front, back, stands, more, is) = both_again (scalar x) (all_scalars xs) (char_scalar x stands.spelled.0) (row_scalars (later mode) xs back left more)
-
--- the run as the UTF-8 of its characters
-abbrev spelled : Token → Token
-spelled (tokens.Run text) = tokens.Run (encode_utf8_all (chars text))
-spelled token = token
-
-same_pieces : (mode : Mode) (token : Token) (cs left : List ℕ) → StandsRow mode (pieces_of token) cs left → (pieces_of (spelled token) ≡ pieces_of token) × IsSpelled (spelled token)
-same_pieces mode (tokens.Declaration encoding) cs left h = (refl, tt)
-same_pieces mode tokens.Instruction cs left h = (refl, tt)
-same_pieces mode tokens.Comment cs left h = (refl, tt)
-same_pieces mode (tokens.Cdata text) cs left h = (refl, tt)
-same_pieces mode (tokens.Start tag) cs left h = (refl, tt)
-same_pieces mode (tokens.End name) cs left h = (refl, tt)
-same_pieces mode (tokens.Reference c) cs left h = (refl, tt)
-same_pieces mode tokens.LineEnd cs left h = (refl, tt)
-same_pieces mode (tokens.Run text) cs left h =
-    let same : chars (encode_utf8_all (chars text)) ≡ chars text = chars-encodes (chars text) (row_scalars mode (chars text) cs left h) in
-    (ap (map Character) same, ap encode_utf8_all same)
-
-takes : (s : Builder) (token : Token) (cs left : List ℕ) → StandsRow (mode_of (nest_of s)) (pieces_of token) cs left → pieces_of token ≢ [] → Takes s (spelled token) cs left
-takes s token cs left h some =
-    let same = same_pieces (mode_of (nest_of s)) token cs left h in
-    record {
-      stands = subst (λ (ps : List Piece). StandsRow (mode_of (nest_of s)) ps cs left) (sym same.0) h;
-      some = λ none. some (sym same.0 ∙ none);
-      spelled = same.1;
-    }
+takes : (s : Builder) (token : Token) (cs left : List ℕ) → StandsRow (mode_of (nest_of s)) (pieces_of token) cs left → pieces_of token ≢ [] → IsSpelled token → Takes s token cs left
+takes s token cs left h some spelled = record { stands = h; some = some; spelled = spelled }
 
 -- a token takes one character at least
 shorter : (mode : Mode) (ps : List Piece) (cs left : List ℕ) → StandsRow mode ps cs left → ps ≢ [] → length left < length cs
@@ -122,7 +86,7 @@ walk (suc fuel) text (c ∷ cs) s u k low = by_token (token_at mode (c ∷ cs)) 
     by_token (Some x) e go =
         let t = token_takes mode (c ∷ cs) x e in
         let less = shorter mode (pieces_of x.0) (c ∷ cs) x.1 t.0 t.1 in
-        by_step (spelled x.0) x.1 (takes s x.0 (c ∷ cs) x.1 t.0 t.1) (omega arith) (token_step s at (spelled x.0)) refl go
+        by_step x.0 x.1 (takes s x.0 (c ∷ cs) x.1 t.0 t.1 (token_spelled mode (c ∷ cs) x e)) (omega arith) (token_step s at x.0) refl go
 
 -- ---- UTF-16 and UTF-8
 

@@ -135,7 +135,7 @@ behind_levels : (s : Nest) (cs : List ℕ) → (behind_run s cs).levels ≡ s.le
 behind_levels s [] = refl
 behind_levels s (c ∷ cs) = refl
 
--- where nothing is behind the white space it is all
+-- where nothing is after the white space it is all
 all_there : (run : List ℕ) (b : Blanks run) → b.back ≡ [] → prefix_len is_blank (encode_utf8_all run) ≡ length (encode_utf8_all run)
 all_there run b is = b.long ∙ sym (ap width (b.parts ∙ ap (λ (z : List ℕ). b.front ++ z) is ∙ append-nil b.front))
 

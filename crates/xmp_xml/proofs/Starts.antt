@@ -121,7 +121,7 @@ blanks (c ∷ cs) = by_blank (is_blank c) refl (blanks cs)
         }
     by_blank false e k = record { front = []; back = c ∷ cs; parts = refl; blank = refl; stops = e; long = dark_byte c (encode_utf8_all cs) e }
 
--- where all bytes are white space nothing is behind it
+-- where all bytes are white space nothing is after it
 pub none_behind : (cs : List ℕ) (k : Blanks cs) → prefix_len is_blank (encode_utf8_all cs) ≡ length (encode_utf8_all cs) → k.back ≡ []
 none_behind cs k e = by_back k.back refl
   where

@@ -185,7 +185,7 @@ closed_quiet [] f root hints scope none = refl
 closed_quiet (document ∷ []) f root hints scope none = refl
 closed_quiet (parent ∷ o ∷ os) f root hints scope none = none
 
--- a tag may not stand behind the root
+-- a tag may not stand after the root
 no_root : (s : Builder) (tag : Tag) → Quiet s → broken (nest_of s) (Start tag) ≡ None → s.root ≡ None
 no_root s tag quiet good = by_outer s.outer s.root quiet (unbroken (nest_of s) (Start tag) good).placed
   where
@@ -313,7 +313,7 @@ run_begins text cs left run s u r row free =
     (run_reads (nest_after nesting.start r.pieces) at run cs left (subst (λ (z : Nest). StandsRow (mode_of z) (map Character run) cs left) r.nest row) (subst (λ (z : Nest). IsRunFree z run) r.nest free))
     (place_from text cs r.pieces u r.read)
 
--- the nest behind it
+-- the nest after it
 pub run_nested : (text cs run : List ℕ) (s : Builder) (r : Reached text s cs) (at : ℕ) → behind_run (nest_of s) run ≡ nest_after nesting.start (r.pieces ++ placed_run at run)
 run_nested text cs run s r at =
     ap (λ (z : Nest). behind_run z run) r.nest ∙ sym (run_nest (nest_after nesting.start r.pieces) at run) ∙ sym (nest-append nesting.start r.pieces (placed_run at run))

@@ -89,7 +89,7 @@ opened s at tag = opened_in s at tag (bindings_of tag.attributes ++ bound_of s.o
 abbrev pub rooted : Builder → Frame → Builder
 rooted s document = record { first = s.first; outer = s.outer; top = document; text = s.text; root = Some (element s.top); hints = s.hints; scope = s.scope }
 
--- the innermost element is a child of its parent, behind which its declarations are no more in force
+-- the innermost element is a child of its parent, after which its declarations are no more in force
 abbrev pub nested : Builder → Frame → Builder
 nested s parent = record { first = s.first; outer = s.outer; top = with_child parent (child.Element (element s.top)); text = s.text; root = s.root; hints = s.hints; scope = drop s.top.declared s.scope }
 

@@ -1,5 +1,5 @@
 -- Reading a document from left to right.
-use Rattle.std.specs.Prelude.{◌≡◌, ◌≢◌, ◌⊎◌, Bool, ℕ, ◌+◌, not, ◌&&◌, ◌==◌, if◌then◌else◌, List, [], length, Option, Some, None, Result, Ok, Err, chars, encode_utf8_all}
+use Rattle.std.specs.Prelude.{◌≡◌, ◌≢◌, ◌⊎◌, Bool, ℕ, ◌+◌, not, ◌&&◌, ◌==◌, if◌then◌else◌, List, [], length, Option, Some, None, Result, Ok, Err}
 use Rattle.std.specs.List.{prefix_len}
 use Rattle.xmp_values.specs.Characters.{is_blank}
 use Rattle.xmp_values.specs.declared.hints.Hint.{Hint}
@@ -11,7 +11,7 @@ use Rattle.xml_grammar.specs.declared.tokens.Mode.TheVariants as modes
 use Rattle.xml_grammar.specs.declared.tokens.Token.{Token}
 use Rattle.xml_grammar.specs.declared.tokens.Token.TheVariants as tokens
 use Rattle.xml_grammar.specs.Pieces.{Piece, Declaration, Instruction, Comment, Cdata, Start, End, Reference, LineEnd, HasPiece}
-use Rattle.xml_grammar.specs.Rows.{StandsRow, pieces_of}
+use Rattle.xml_grammar.specs.Rows.{StandsRow, pieces_of, IsSpelled}
 use Rattle.xml_grammar.specs.Nesting.{mode_of, broken}
 use Rattle.xml_grammar.specs.Trees.{first_hints}
 use Rattle.xml_grammar.specs.Documents.{IsRule}
@@ -54,18 +54,13 @@ token_step s at (tokens.Run text) = run_step s at text
 
 -- ---- one token further
 
--- the bytes of a run are those of its characters
-abbrev pub IsSpelled : Token → Type 0
-IsSpelled (tokens.Run text) = encode_utf8_all (chars text) ≡ text
-IsSpelled token = Unit {0}
-
 -- a token stands at the front of the characters cs, before what is left
 pub record Takes (s : Builder) (token : Token) (cs left : List ℕ) : Type 0 where
   pub stands : StandsRow (mode_of (nest_of s)) (pieces_of token) cs left
   pub some : pieces_of token ≢ []
   pub spelled : IsSpelled token
 
--- the builder and what is left behind one token at a place
+-- the builder and what is left after one token at a place
 abbrev pub Advances : Builder → ℕ → List ℕ → Builder → List ℕ → Type 0
 Advances s at cs next left = (token : Token) × Takes s token cs left × (token_step s at token ≡ Ok next)
 

@@ -1,5 +1,5 @@
 -- What a token does, kind by kind.
-use Rattle.std.specs.Prelude.{ℕ, Bool, ◌&&◌, if◌then◌else◌, nat_le, is_some, List, [], ◌∷◌, length, Option, Some, None, Result, Ok, Err, encode_utf8}
+use Rattle.std.specs.Prelude.{◌+◌, ◌<◌, ◌^◌, ℕ, Bool, ◌&&◌, if◌then◌else◌, nat_le, is_some, List, [], ◌∷◌, length, Option, Some, None, Result, Ok, Err, encode_utf8}
 use Rattle.xmp_values.specs.declared.rules.Rule.{Rule}
 use Rattle.xmp_values.specs.declared.rules.Rule.TheVariants.{Encoding, OutsideRoot, Mismatch, BadNamespace, UnboundPrefix, TwiceAttribute, TooDeep}
 use Rattle.xml_grammar.specs.declared.tags.QName.{QName}
@@ -62,7 +62,7 @@ step_of s at (tokens.Reference c) = text_step s at (encode_utf8 c)
 step_of s at tokens.LineEnd = Ok (with_text s (0xA ∷ []))
 step_of s at (tokens.Run text) = run_step s at text
 
--- a run with the bytes on which it stands
-abbrev pub with_run : Token → List ℕ → Token
-with_run (tokens.Run text) bytes = tokens.Run bytes
-with_run token bytes = token
+-- the places inside a run fit
+abbrev pub FitsAt : ℕ → Token → Type 0
+FitsAt at (tokens.Run text) = at + length text < 2 ^ 64
+FitsAt at token = Unit {0}

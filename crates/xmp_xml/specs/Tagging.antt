@@ -1,6 +1,7 @@
 -- A tag with its declarations apart and its names expanded.
-use Rattle.std.specs.Prelude.{ℕ, Bool, ◌||◌, List, [], ◌∷◌, ◌++◌, map, Option, Some, None}
+use Rattle.std.specs.Prelude.{ℕ, Bool, ◌||◌, List, [], ◌∷◌, ◌++◌, map, Option, Some, None, codes}
 use Rattle.std.specs.List.{list_any, filter_map}
+use Rattle.std.specs.Str.{bytes_eq}
 use Rattle.xml_grammar.specs.declared.elements.Attribute.{Attribute}
 use Rattle.xml_grammar.specs.declared.tags.QName.{QName}
 use Rattle.xml_grammar.specs.declared.tags.RawAttribute.{RawAttribute}
@@ -15,6 +16,11 @@ use Rattle.xmp_xml.specs.declared.tags.Tagged.{Tagged}
 use Rattle.xmp_xml.specs.Building.{bound_of, frame}
 
 -- ---- declarations apart
+
+-- does an attribute of this name declare a namespace
+abbrev pub declares : Option (List ℕ) → List ℕ → Bool
+declares None local = bytes_eq local (codes "xmlns")
+declares (Some prefix) local = bytes_eq prefix (codes "xmlns")
 
 abbrev pub same_binding : Binding → Binding → Bool
 same_binding a b = same_prefix a.prefix b.prefix

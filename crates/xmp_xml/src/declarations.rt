@@ -4,7 +4,7 @@ ghost use Rattle.std.specs.Prelude.{◌≡◌, [], ◌∷◌, ◌++◌, length, 
 ghost use Rattle.std.specs.List.{list_any, filter_map};
 ghost use Rattle.xml_grammar.specs.Scopes.{is_reserved, is_misbound_to, is_misbound};
 ghost use Rattle.xml_grammar.specs.Trees.{hint_of};
-ghost use Rattle.xmp_xml.specs.Bounds.{bindings_in};
+ghost use Rattle.xmp_xml.specs.Bounds.{binding_in, bindings_in};
 ghost use Rattle.xmp_xml.specs.Building.{is_nil};
 
 use std::alloc::Global;
@@ -48,10 +48,10 @@ impl<'p> Declared<'p> {
     }
 
     /// One declaration more, at the end.
-    pub fn push(&mut self, prefix: Option<Text<'p>>, space: Text<'p>) -> Result<(), Memory>
-        ensures { OnOk result (self.new ≡ self.old ++ record { prefix = prefix.entry; space = space.entry } ∷ []) }
+    pub fn push(&mut self, bound: Bound<'p>) -> Result<(), Memory>
+        ensures { OnOk result (self.new ≡ self.old ++ binding_in bound.entry ∷ []) }
     {
-        self.list.push(Bound { prefix, space })
+        self.list.push(bound)
     }
 
     #[tactic(auto, using(crate::proofs::Nests::nil_is))]

@@ -75,7 +75,7 @@ impl<'p> Pending<'p> {
         }
     }
 
-    /// The text with more behind it.
+    /// The text with more after it.
     #[tactic(auto, using(crate::proofs::Nests::nil_front))]
     pub fn with(self, alloc: Global, more: Text<'p>) -> Result<Pending<'p>, Memory>
         ensures { IfOk result (λ t. t ≡ self.entry ++ more.entry) }

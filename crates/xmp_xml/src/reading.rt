@@ -1,14 +1,12 @@
 //! A document from left to right.
 
-ghost use Rattle.std.specs.Prelude.{◌≡◌, ◌≢◌, ◌+◌, ◌<◌, ◌≤◌, ◌^◌, ◌++◌, [], ℕ, List, length, IfOk, IfErr, OnOk, IsUtf8};
+ghost use Rattle.std.specs.Prelude.{◌≡◌, ◌≢◌, ◌+◌, ◌<◌, ◌^◌, [], ℕ, List, length, IfOk, IfErr, OnOk, IsUtf8};
 ghost use Rattle.std.specs.Str.{chars};
 ghost use Rattle.xmp_values.specs.declared.hints.Hint.{Hint};
 ghost use Rattle.xmp_values.specs.Stops.{Gives, Stops, place_of};
 ghost use Rattle.xmp_values.specs.declared.rules.Rule.{Rule};
 ghost use Rattle.xml_grammar.specs.declared.elements.Element.{Element};
 ghost use Rattle.xml_grammar.specs.Documents.{IsDocument, IsFault};
-ghost use Rattle.xml_grammar.specs.Rows.{StandsRow, pieces_of};
-ghost use Rattle.xml_tokenizer.specs.Stands.{IsBehind};
 ghost use Rattle.xmp_xml.specs.Building.{is_nil};
 ghost use Rattle.xmp_xml.specs.Document.{mode_by, Advances, Halts, finish};
 ghost use Rattle.xmp_xml.specs.Reading.{AnswersDocument, AnswersFault, IsOfBytes, AnswersAlways};
@@ -18,7 +16,7 @@ use crate::contents::Doc;
 use crate::hints::first_hints;
 use crate::steps::token_step;
 use std::alloc::Global;
-use xml_grammar::{Element, Mode, Token};
+use xml_grammar::{Element, Mode};
 use xml_tokenizer::{behind_mark, text_of, token_of};
 use xmp_values::{Hint, Hints, PlaceStop, Rule, Sequence};
 
@@ -34,38 +32,6 @@ fn mode_of(builder: &Builder<'_>) -> Mode
     } else {
         Mode::Outside
     }
-}
-
-/// The text before what is left of it.
-fn front<'p>(text: &'p str, rest: &'p str) -> &'p str
-    requires shorter { length rest.now ≤ length text.now }
-    requires behind { IsBehind text.now rest.now }
-    ensures { text.now ≡ result.now ++ rest.now }
-{
-    let (front, _) = text.split_at(text.len() - rest.len());
-    front
-}
-
-/// Past a token that stands at the front of what is left.
-fn advance_by<'p>(
-    alloc: Global,
-    builder: &mut Builder<'p>,
-    at: u64,
-    mode: Mode,
-    token: Token<'p>,
-    rest: &'p str,
-    behind: &'p str,
-) -> Result<(), PlaceStop>
-    requires fits { at + length rest.now < 2 ^ 64 }
-    requires mode { mode ≡ mode_by (is_nil builder.old.outer) builder.old.first }
-    requires stands { StandsRow mode (pieces_of token) (chars rest.now) (chars behind.now) }
-    requires some { pieces_of token ≢ [] }
-    requires behind { IsBehind rest.now behind.now }
-    ensures further { OnOk result (Advances builder.old at (chars rest.now) builder.new (chars behind.now)) }
-    ensures stops { IfErr result (λ e. Stops place_of e (λ f. Halts builder.old at (chars rest.now) f.0 f.1)) }
-{
-    let run = front(rest, behind);
-    token_step(alloc, builder, at, token, run.as_bytes())
 }
 
 /// One token further.
@@ -85,7 +51,7 @@ fn advance<'p>(
     let mode = mode_of(builder);
     match token_of(alloc, mode, rest) {
         Ok((token, behind)) => {
-            advance_by(alloc, builder, at, mode, token, rest, behind)?;
+            token_step(alloc, builder, at, token)?;
             Ok(behind)
         }
         Err(stop) => Err(stop.at(at)),

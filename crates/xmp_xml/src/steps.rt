@@ -7,7 +7,7 @@ ghost use Rattle.xml_grammar.specs.Scopes.{same_prefix, same_qname};
 ghost use Rattle.xml_grammar.specs.Nesting.{is_foreign};
 ghost use Rattle.xmp_xml.specs.Building.{is_nil};
 ghost use Rattle.xmp_xml.specs.Document.{run_step};
-ghost use Rattle.xmp_xml.specs.Steps.{declaration_step, text_step, end_step, tag_rule, begun, tagged_step, start_step, step_of, with_run};
+ghost use Rattle.xmp_xml.specs.Steps.{declaration_step, text_step, end_step, tag_rule, begun, tagged_step, start_step, step_of, FitsAt};
 
 use crate::builder::{Builder, add_text, begin, end, end_if, pass, scope_tag};
 use crate::pending::char_text;
@@ -170,28 +170,27 @@ fn run_step<'p>(
     alloc: Global,
     builder: &mut Builder<'p>,
     at: u64,
-    run: &'p [u8],
+    run: Text<'p>,
 ) -> Result<(), PlaceStop>
-    requires { at + length run.now < 2 ^ 64 }
-    ensures { Makes place_of result builder.new (run_step builder.old at run.now) }
+    requires { at + length run < 2 ^ 64 }
+    ensures { Makes place_of result builder.new (run_step builder.old at run.entry) }
 {
-    let blank = leading_blanks(run);
-    if builder.outer.is_empty() && blank != run.len() {
+    let blank = leading_blanks(run.bytes());
+    if builder.outer.is_empty() && blank != run.bytes().len() {
         return Err(PlaceStop::Fault(Rule::OutsideRoot, at + blank as u64));
     }
-    Ok(add_text(alloc, builder, Text::raw(run))?)
+    Ok(add_text(alloc, builder, run)?)
 }
 
-/// One token further. The bytes are those on which the token stands.
+/// One token further.
 pub fn token_step<'p>(
     alloc: Global,
     builder: &mut Builder<'p>,
     at: u64,
     token: Token<'p>,
-    bytes: &'p [u8],
 ) -> Result<(), PlaceStop>
-    requires { at + length bytes.now < 2 ^ 64 }
-    ensures { Makes place_of result builder.new (step_of builder.old at (with_run token.entry bytes.now)) }
+    requires { FitsAt at token }
+    ensures { Makes place_of result builder.new (step_of builder.old at token.entry) }
 {
     match token {
         Token::Declaration(encoding) => declaration_step(builder, at, &encoding),
@@ -204,6 +203,6 @@ pub fn token_step<'p>(
         Token::End(name) => end_step(alloc, builder, at, &name),
         Token::Reference(c) => reference_step(alloc, builder, at, c),
         Token::LineEnd => Ok(add_text(alloc, builder, Text::raw(b"\n".as_slice()))?),
-        Token::Run(_) => run_step(alloc, builder, at, bytes),
+        Token::Run(text) => run_step(alloc, builder, at, text),
     }
 }

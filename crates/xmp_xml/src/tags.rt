@@ -1,13 +1,14 @@
 //! A tag with its declarations apart and its names expanded.
 
-ghost use Rattle.std.specs.Prelude.{◌≡◌, ◌++◌, ◌||◌, map, IfOk, OnOk};
+ghost use Rattle.std.specs.Prelude.{◌≡◌, ◌++◌, ◌||◌, true, Some, map, IfOk, OnOk};
 ghost use Rattle.std.specs.List.{list_any};
-ghost use Rattle.xml_grammar.specs.Scopes.{bindings_of, bound_to, or_nothing, attribute_space, expanded, is_unbound};
+ghost use Rattle.xml_grammar.specs.Scopes.{binding_of, bindings_of, bound_to, or_nothing, attribute_space, expanded, is_unbound};
 ghost use Rattle.xml_grammar.specs.Nesting.{has_twice};
-ghost use Rattle.xmp_xml.specs.Tagging.{with_declaration, with_plain, with_attribute, divided, lacks_one, same_attribute, frame_in, tagged_with};
+ghost use Rattle.xmp_xml.specs.Bounds.{binding_in};
+ghost use Rattle.xmp_xml.specs.Tagging.{declares, with_attribute, divided, lacks_one, same_attribute, frame_in, tagged_with};
 
 use crate::builder::Frame;
-use crate::declarations::Declared;
+use crate::declarations::{Bound, Declared};
 use crate::scopes::Scope;
 use std::alloc::Global;
 use xml_grammar::{Attribute, Attributes, Children, QName, RawAttribute, Tag};
@@ -34,50 +35,43 @@ pub struct Tagged<'p> {
     pub empty: bool,
 }
 
-fn add_declaration<'p>(
-    parts: &mut Parts<'p>,
-    prefix: Option<Text<'p>>,
-    space: Text<'p>,
-) -> Result<(), Memory>
-    ensures { OnOk result (parts.new ≡ with_declaration parts.old prefix.entry space.entry) }
+/// Whether an attribute of this name declares a namespace.
+fn declares(name: &QName<'_>) -> bool
+    ensures { result ≡ declares name.now.prefix name.now.local }
 {
-    parts.declared.push(prefix, space)
+    match &name.prefix {
+        None => name.local.bytes() == b"xmlns".as_slice(),
+        Some(prefix) => prefix.bytes() == b"xmlns".as_slice(),
+    }
 }
 
-fn add_plain<'p>(parts: &mut Parts<'p>, attribute: RawAttribute<'p>) -> Result<(), Memory>
-    ensures { OnOk result (parts.new ≡ with_plain parts.old attribute.entry) }
+/// What a declaration binds.
+fn bound_of<'p>(declaration: RawAttribute<'p>) -> Bound<'p>
+    requires { declares declaration.name.prefix declaration.name.local ≡ true }
+    ensures { binding_of declaration.entry ≡ Some (binding_in result) }
 {
-    parts.plain.push(attribute)
+    let RawAttribute { name, value } = declaration;
+    let QName { prefix, local } = name;
+    match prefix {
+        None => Bound {
+            prefix: None,
+            space: value,
+        },
+        Some(_) => Bound {
+            prefix: Some(local),
+            space: value,
+        },
+    }
 }
 
 /// One attribute more.
 fn add_attribute<'p>(parts: &mut Parts<'p>, attribute: RawAttribute<'p>) -> Result<(), Memory>
     ensures { OnOk result (parts.new ≡ with_attribute parts.old attribute.entry) }
 {
-    let RawAttribute { name, value } = attribute;
-    let QName { prefix, local } = name;
-    match prefix {
-        None => {
-            if local.bytes() == b"xmlns".as_slice() {
-                return add_declaration(parts, None, value);
-            }
-            let name = QName {
-                prefix: None,
-                local,
-            };
-            add_plain(parts, RawAttribute { name, value })
-        }
-        Some(prefix) => {
-            if prefix.bytes() == b"xmlns".as_slice() {
-                return add_declaration(parts, Some(local), value);
-            }
-            let name = QName {
-                prefix: Some(prefix),
-                local,
-            };
-            add_plain(parts, RawAttribute { name, value })
-        }
+    if declares(&attribute.name) {
+        return parts.declared.push(bound_of(attribute));
     }
+    parts.plain.push(attribute)
 }
 
 fn divided<'p>(alloc: Global, attributes: Sequence<RawAttribute<'p>>) -> Result<Parts<'p>, Memory>
