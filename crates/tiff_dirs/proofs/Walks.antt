@@ -21,7 +21,7 @@ split_by x xs y (zero, low, is) = inl is
 split_by x xs y (suc k, low, is) = inr (k, omega arith, is)
 
 module _ (f : ℕ → List FileSpan) where
-  flat_in : (xs : List ℕ) (x : ℕ) (r : FileSpan) → Contains xs x → Contains (f x) r → Contains (flat_map f xs) r
+  pub flat_in : (xs : List ℕ) (x : ℕ) (r : FileSpan) → Contains xs x → Contains (f x) r → Contains (flat_map f xs) r
   flat_in [] x r (k, low, is) h = absurd (omega arith)
   flat_in (y ∷ ys) x r m h =
       elim (split_by y ys x m) [
