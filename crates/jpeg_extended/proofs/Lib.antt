@@ -4,3 +4,6 @@ pub mod KeptPortions
 pub mod Joins
 pub mod Capitals
 pub mod Segments
+pub mod Orders
+pub mod OneText
+pub mod NewPortions

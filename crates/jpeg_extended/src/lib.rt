@@ -6,11 +6,15 @@
 #![tactic(auto)]
 
 mod joiner;
+mod laws;
 mod naming;
+#[cfg(test)]
+mod tests;
 mod tiling;
 mod writing;
 
 pub use joiner::Joiner;
+pub use laws::{joins_again, one_answer};
 pub use naming::name_of;
 pub use tiling::{ExtStop, Head, tile};
 pub use writing::{portion_count, portion_into, segment_len};
