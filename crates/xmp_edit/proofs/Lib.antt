@@ -7,3 +7,7 @@ pub mod Levels
 pub mod Steps
 pub mod Kept
 pub mod WholeTrees
+pub mod Escapes
+pub mod Judged
+pub mod NewHints
+pub mod Utf8Scripts

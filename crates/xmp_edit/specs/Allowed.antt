@@ -1,5 +1,5 @@
 -- Which edits are allowed, and what a change must keep.
-use Rattle.std.specs.Prelude.{ℕ, ◌+◌, ◌-◌, ◌≤◌, ◌≡◌, ◌≢◌, List, [], ◌∷◌, length, Option, Some, None, Result, Ok, Err, IsTrue, All}
+use Rattle.std.specs.Prelude.{ℕ, true, ◌+◌, ◌-◌, ◌≤◌, ◌≡◌, ◌≢◌, List, [], ◌∷◌, length, Option, Some, None, Result, Ok, Err, IsTrue, All}
 use Rattle.xmp_values.specs.Characters.{IsCharText}
 use Rattle.xmp_values.specs.declared.text.Name.{Name}
 use Rattle.xmp_values.specs.declared.rules.Rule.{Rule}
@@ -12,6 +12,12 @@ use Rattle.xmp_paths.specs.Allowed.{IsAllowedPath}
 use Rattle.xmp_edit.specs.declared.action.Action.{Action}
 use Rattle.xmp_edit.specs.declared.action.Action.TheVariants.{SetText, SetUri, Delete, MakeArray, MakeStruct, Append, Insert, SetLang}
 use Rattle.xmp_edit.specs.declared.edit.Edit.{Edit}
+use Rattle.xmp_values.specs.Hints.{IsValidHint}
+use Rattle.xmp_paths.specs.Grammar.{is_name}
+use Rattle.xmp_edit.specs.declared.given.Given.{Given}
+use Rattle.xmp_edit.specs.declared.given.Given.TheVariants.{Nothing, Bound, Made}
+use Rattle.xmp_edit.specs.declared.line.Line.{Line}
+use Rattle.xmp_edit.specs.declared.line.Line.TheVariants as lines
 use Rattle.xmp_edit.specs.Edits.{Change}
 
 -- a value that may stand where so many levels are left
@@ -103,3 +109,15 @@ pub record IsAllowed (e : Edit) : Type 0 where
   pub ends : MayEnd (last_step e.path) e.action
   pub texts : All IsCharText (texts_of e.action)
   pub shallow : length e.path.steps + 1 + levels_of e.action ≤ 24
+
+-- what a line may give
+abbrev pub IsWell : Given → Type 0
+IsWell Nothing = Unit {0}
+IsWell (Bound h) = IsValidHint h
+IsWell (Made e) = IsAllowed e
+
+-- a line of one of the forms: what binds has a name for its prefix, and a namespace
+abbrev pub IsFormed : Line → Type 0
+IsFormed lines.Skip = Unit {0}
+IsFormed (lines.Bind prefix uri) = (is_name prefix ≡ true) × (length uri ≡ 0 → ⊥)
+IsFormed (lines.Change path qualifier action) = Unit {0}

@@ -1,8 +1,11 @@
 pub mod Paths
 pub mod Answering
 pub mod Edits
+pub mod Lines
 pub mod Actions
 pub mod Scripts
 pub mod ScriptParts
 pub mod Allowed
 pub mod Law
+pub mod Judging
+pub mod ScriptOf

@@ -10,20 +10,25 @@ mod action;
 mod changing;
 mod edit;
 mod finding;
+mod given;
+mod judging;
 mod laws;
+mod line;
 mod names;
 mod path;
 mod places;
+mod reading;
 mod script;
 mod stops;
 #[cfg(test)]
 mod tests;
+mod words;
 
 pub use action::Action;
 pub use edit::Edit;
 pub use finding::find;
 pub use laws::edit_keeps;
 pub use path::Path;
-pub use script::{Script, apply};
+pub use script::{Script, apply, one_set};
 pub use stops::PathStop;
 pub use xmp_values::{PlaceStop as EditStop, PlaceStop as ScriptStop};

@@ -2,7 +2,7 @@
 ghost use Rattle.std.specs.Prelude.{◌≡◌, [], ◌∷◌, ◌++◌, OnOk, OnErr};
 ghost use Rattle.std.specs.Option.{option_copied};
 ghost use Rattle.xmp_values.specs.Hints.{IsValidHint};
-ghost use Rattle.xmp_paths.specs.Namespaces.{AreBound, hinted_space, space_of};
+ghost use Rattle.xmp_paths.specs.Namespaces.{AreBound, hinted_space, is_bound, space_of};
 
 use known_prefixes::known_space;
 use std::alloc::Global;
@@ -61,6 +61,24 @@ impl<'h> Namespaces<'h> {
     {
         self.lines.push(line)?;
         Ok(())
+    }
+
+    /// Whether a line binds the prefix.
+    pub fn is_bound(&self, prefix: &[u8]) -> bool
+        ensures { result ≡ is_bound self.now prefix.now }
+    {
+        self.lines
+            .as_slice()
+            .iter()
+            .any(|line| prefix == line.prefix.as_slice())
+    }
+
+    /// What the lines bind, in their order.
+    pub fn lines(&self) -> &[Hint]
+        ensures lines { result.now ≡ self.now.lines }
+        ensures valid { AreBound self.now }
+    {
+        self.lines.as_slice()
     }
 
     /// The namespace of a prefix: a line's, else the known one, else the file's.

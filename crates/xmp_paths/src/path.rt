@@ -1,6 +1,6 @@
 //! Paths.
 ghost use Rattle.std.specs.Prelude.{◌≡◌, Some};
-ghost use Rattle.xmp_paths.specs.Allowed.{IsSpelling};
+ghost use Rattle.xmp_paths.specs.Allowed.{IsAllowedPath, IsSpelling};
 ghost use Rattle.xmp_paths.specs.Paths.{path_of, path_named};
 ghost use Rattle.xmp_values.specs.Stops.{Gives, rule_of};
 
@@ -79,7 +79,8 @@ impl Path {
 
     /// The steps from the property's value.
     pub fn steps(&self) -> &[Step]
-        ensures { result.now ≡ self.now.steps }
+        ensures steps { result.now ≡ self.now.steps }
+        ensures allowed { IsAllowedPath self.now }
     {
         self.steps.as_slice()
     }
