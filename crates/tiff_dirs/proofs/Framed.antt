@@ -26,11 +26,11 @@ use Rattle.tiff_dirs.proofs.Sizes.{header_least}
 use Rattle.tiff_dirs.proofs.Unique.{front_in}
 use Rattle.tiff_dirs.proofs.Walks.{flat_in}
 
-or_first : (x y : Option TiffStop) → option_or x y ≡ None → x ≡ None
+pub or_first : (x y : Option TiffStop) → option_or x y ≡ None → x ≡ None
 or_first None y e = refl
 or_first (Some x) y e = e
 
-or_second : (x y : Option TiffStop) → option_or x y ≡ None → y ≡ None
+pub or_second : (x y : Option TiffStop) → option_or x y ≡ None → y ≡ None
 or_second None y e = e
 or_second (Some x) y e = (cc)
 
@@ -86,7 +86,7 @@ place_cases false false true false x u v w h nx nu nv e = absurd (let k = h refl
 inside_more : (header at end len more : ℕ) → len ≤ more → (nat_le header at && nat_le end len) ≡ true → (nat_le header at && nat_le end more) ≡ true
 inside_more header at end len more h e = grind (arith, nat_tests, h, e)
 
-abbrev place_by : Bool → Bool → ℕ → ℕ → ℕ → ℕ → ℕ → Option TiffStop
+abbrev pub place_by : Bool → Bool → ℕ → ℕ → ℕ → ℕ → ℕ → Option TiffStop
 place_by many any header at end len n =
     if many then broken TooManyDirectories at
     else (if any then broken DirectoryTwice at
@@ -209,7 +209,7 @@ widths_by : (t big : Bool) → Widths (if t then wide big else classic big)
 widths_by true big = record { entry = refl; least_word = omega arith; most_word = omega arith; least_count = omega arith; most_count = omega arith; header = refl }
 widths_by false big = record { entry = refl; least_word = omega arith; most_word = omega arith; least_count = omega arith; most_count = omega arith; header = refl }
 
-layout_widths : (file : List ℕ) → Widths (layout_of file)
+pub layout_widths : (file : List ℕ) → Widths (layout_of file)
 layout_widths file = let big = number true 2 0 file == 0x4D4D in widths_by (number big 2 2 file == 43) big
 
 layout_same : (a b : List ℕ) → bytes_in b (span 0 (layout_of a).header) ≡ bytes_in a (span 0 (layout_of a).header) → layout_of b ≡ layout_of a

@@ -16,7 +16,7 @@ use Rattle.tiff_dirs.specs.FromDesk.{WalkReads}
 use Rattle.tiff_dirs.proofs.Loads.{reads_trans, reads_wider}
 use Rattle.tiff_dirs.proofs.Unique.{front_of, next_of}
 
-split_by : {X : Type 0} (x : X) (xs : List X) (y : X) → Contains (x ∷ xs) y → (x ≡ y) ⊎ Contains xs y
+pub split_by : {X : Type 0} (x : X) (xs : List X) (y : X) → Contains (x ∷ xs) y → (x ≡ y) ⊎ Contains xs y
 split_by x xs y (zero, low, is) = inl is
 split_by x xs y (suc k, low, is) = inr (k, omega arith, is)
 
