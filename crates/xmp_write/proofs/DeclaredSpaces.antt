@@ -10,7 +10,6 @@ use Rattle.std.proofs.lemmas.List.Quantifiers.{all_pairs_push}
 use Rattle.std.proofs.lemmas.Slice.Eq.{bytes_eq-Decides}
 use Rattle.known_prefixes.specs.Prefixes.{is_fixed}
 use Rattle.xmp_write.specs.Prefixes.{with_use}
-use Rattle.xmp_write.proofs.TextSets.{bytes_eq-itself}
 
 -- used namespaces, each of a kind
 pub record AreUses (P : List ℕ → Type 0) (spaces : List (List ℕ)) : Type 0 where
@@ -60,7 +59,7 @@ module _ (text : List ℕ) where
       by true is = still_used spaces text is
       by false is =
           subst (λ (b : Bool). IsUsed (cond b spaces (spaces ++ text ∷ []))) (sym (ap (λ (b : Bool). b || list_any (bytes_eq text) spaces) unfixed ∙ is))
-          (list_any-append (bytes_eq text) spaces (text ∷ []) ∙ or_right (list_any (bytes_eq text) spaces) (bytes_eq text text || false) (or_left (bytes_eq text text) false (bytes_eq-itself text)))
+          (list_any-append (bytes_eq text) spaces (text ∷ []) ∙ or_right (list_any (bytes_eq text) spaces) (bytes_eq text text || false) (or_left (bytes_eq text text) false ((bytes_eq-Decides text text).1 refl)))
 
   kept_used : (uses spaces : List (List ℕ)) → IsUsed spaces → IsUsed (fold with_use spaces uses)
   kept_used [] spaces used = used

@@ -19,9 +19,8 @@ use Rattle.std.proofs.lemmas.Str.{IsAscii-append, encodes-IsAscii}
 use Rattle.xmp_values.specs.Characters.{IsName, is_name_char, is_name_start, is_within, further_ranges}
 use Rattle.xmp_values.specs.declared.hints.Hint.{Hint}
 use Rattle.known_prefixes.specs.Prefixes.{is_fixed, is_known, known_prefix, known_space, begins_xml}
-use Rattle.xmp_write.specs.Prefixes.{prefix_in, has_prefix, fitting, is_free, numbered, free_number, prefix_for, with_prefix}
+use Rattle.xmp_write.specs.Prefixes.{spaces_in, prefix_in, has_prefix, fitting, is_free, numbered, free_number, prefix_for, with_prefix}
 use Rattle.xmp_write.proofs.FreeNumbers.{free_number-free}
-use Rattle.xmp_write.proofs.PlaceMaps.{spaces_in}
 use Rattle.xmp_write.proofs.KnownRows.{IsFree, known_free, one_space}
 
 -- given prefixes: each may be declared, a known one is that of its namespace, and none stands twice

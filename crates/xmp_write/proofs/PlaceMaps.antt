@@ -1,30 +1,13 @@
--- Maps of namespaces to their places.
+-- The places of namespaces in a list.
 use Rattle.std.proofs.Common.{◌≡◌, ℕ, ◌+◌, Bool, true, false, cond, List, [], ◌∷◌, ◌++◌, length, map, fold, Bor, Option, Some, None, refl, sym, ap, ◌∙◌}
 use Rattle.std.specs.Prelude.{slice_get, unwrap_or}
 use Rattle.std.specs.Option.{option_map}
 use Rattle.std.specs.List.{position_from}
 use Rattle.std.specs.Str.{bytes_eq}
-use Rattle.std.specs.BTreeMap.{BTreeMap, UpdatesBy}
 use Rattle.std.proofs.lemmas.List.{length_push, map-append, append-nil, append_assoc}
-use Rattle.std.proofs.lemmas.Map.Text.{btree_map_updates_str}
 use Rattle.xmp_values.specs.declared.hints.Hint.{Hint}
 use Rattle.known_prefixes.specs.Prefixes.{fixed_prefix}
-use Rattle.xmp_write.specs.Prefixes.{prefix_in, written_prefix, with_prefix, prefix_for}
-use Rattle.xmp_write.specs.Texts.{text_in}
-use Rattle.xmp_write.specs.Places.{HasPlacesFrom}
-use Rattle.xmp_write.proofs.TextSets.{key_cmp, bytes_eq-sym}
-
--- a namespace put over the places of those behind it
-pub places_before : (at : ℕ) (key : Bor (List ℕ)) (rest : List (List ℕ)) (old new : BTreeMap (Bor (List ℕ)) ℕ) → HasPlacesFrom (at + 1) old rest
-    → UpdatesBy key_cmp (key_cmp key) old new (Some at) → HasPlacesFrom at new (key.now ∷ rest)
-places_before at key rest old new has updates text =
-    btree_map_updates_str key.now old new (Some at) updates text
-    ∙ ap (λ here. cond here (Some at) (text_in old text)) (bytes_eq-sym key.now text)
-    ∙ ap (cond (bytes_eq text key.now) (Some at)) (has text)
-
--- the namespaces of a list
-abbrev pub spaces_in : List Hint → List (List ℕ)
-spaces_in = map (λ h. h.space)
+use Rattle.xmp_write.specs.Prefixes.{spaces_in, prefix_in, written_prefix, with_prefix, prefix_for}
 
 -- those that are given prefixes are those of the list that is made, in their order
 pub spaces_in-given : (hints given : List Hint) (spaces : List (List ℕ)) → spaces_in (fold (with_prefix hints) given spaces) ≡ spaces_in given ++ spaces

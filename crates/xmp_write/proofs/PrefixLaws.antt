@@ -19,7 +19,8 @@ use Rattle.xmp_write.proofs.OwnNames.{written_owned}
 use Rattle.xmp_write.proofs.DeclaredSpaces.{AreUses, uses_kept, all_used}
 use Rattle.xmp_write.proofs.KnownRows.{IsFree}
 use Rattle.xmp_write.proofs.KeptPrefixes.{AreGiven, given_kept}
-use Rattle.xmp_write.proofs.PlaceMaps.{spaces_in, spaces_in-given}
+use Rattle.xmp_write.specs.Prefixes.{spaces_in}
+use Rattle.xmp_write.proofs.PlaceMaps.{spaces_in-given}
 
 -- a namespace of a list has a prefix there
 listed : (ps : List Hint) (space : List ℕ) → list_any (bytes_eq space) (spaces_in ps) ≡ true → (prefix : List ℕ) × (prefix_in ps space ≡ Some prefix)

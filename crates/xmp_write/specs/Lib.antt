@@ -6,8 +6,5 @@ pub mod Text
 pub mod WrittenPackets
 pub mod Lines
 pub mod Placing
-pub mod Texts
-pub mod Hinted
 pub mod Giving
-pub mod Places
 pub mod Writing

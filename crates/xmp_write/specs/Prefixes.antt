@@ -1,8 +1,9 @@
 -- The prefixes of a written text: a list of namespaces by first use, each with its prefix.
 -- A namespace beside its prefix is a `Hint`, as in a text that is read.
-use Rattle.std.specs.Prelude.{ℕ, ◌+◌, Bool, not, ◌&&◌, ◌||◌, if◌then◌else◌, codes, decimal, List, [], ◌∷◌, ◌++◌, length, fold, Option, Some, None, unwrap_or}
+use Rattle.std.specs.Prelude.{ℕ, ◌+◌, Bool, not, ◌&&◌, ◌||◌, if◌then◌else◌, codes, decimal, List, [], ◌∷◌, ◌++◌, length, map, fold, Option, Some, None, unwrap_or}
 use Rattle.std.specs.List.{list_any, position_or_len, range_with_len}
 use Rattle.std.specs.Str.{bytes_eq}
+pub use Rattle.xmp_values.specs.Hints.{prefix_in, has_prefix}
 use Rattle.xmp_values.specs.declared.hints.Hint.{Hint}
 use Rattle.xmp_values.specs.declared.text.Name.{Name}
 use Rattle.known_prefixes.specs.Prefixes.{fixed_prefix, known_prefix, is_fixed, is_known, begins_xml}
@@ -17,15 +18,6 @@ with_use spaces space = if is_fixed space || list_any (bytes_eq space) spaces th
 -- the namespaces that are declared, by first use
 abbrev pub declared_spaces : Parts → Form → List (List ℕ)
 declared_spaces t form = fold with_use [] (written_spaces t form)
-
--- the prefix that a list has for a namespace
-abbrev pub prefix_in : List Hint → List ℕ → Option (List ℕ)
-prefix_in [] space = None
-prefix_in (h ∷ hs) space = if bytes_eq space h.space then Some h.prefix else prefix_in hs space
-
--- whether a list has a prefix
-abbrev pub has_prefix : List Hint → List ℕ → Bool
-has_prefix hs prefix = list_any (λ h. bytes_eq prefix h.prefix) hs
 
 -- a hint's prefix, if it is none of the known, isn't reserved and isn't given yet
 abbrev pub fitting : List Hint → Option (List ℕ) → Option (List ℕ)
@@ -55,6 +47,10 @@ with_prefix hints given space = given ++ record { space = space; prefix = prefix
 -- The prefixes of the text of a tree in a form.
 abbrev pub prefixes : Parts → List Hint → Form → List Hint
 prefixes t hints form = fold (with_prefix hints) [] (declared_spaces t form)
+
+-- the namespaces of a list
+abbrev pub spaces_in : List Hint → List (List ℕ)
+spaces_in = map (λ h. h.space)
 
 -- the prefix with which a name of a namespace is written; where there is none it is empty
 abbrev pub written_prefix : List Hint → List ℕ → List ℕ

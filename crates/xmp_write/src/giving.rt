@@ -1,17 +1,16 @@
 //! Prefixes as they are given, namespace by namespace.
-ghost use Rattle.std.specs.Prelude.{◌≡◌, List, ◌+◌, ◌^◌, ◌<◌, ◌++◌, ◌∷◌, [], IfOk, fold};
+ghost use Rattle.std.specs.Prelude.{◌≡◌, List, ◌+◌, ◌^◌, ◌<◌, ◌++◌, ◌∷◌, [], IfOk, OnOk, fold};
 ghost use Rattle.std.specs.Option.{option_copied};
 ghost use Rattle.xmp_values.specs.declared.hints.Hint.{Hint};
 ghost use Rattle.xmp_write.specs.Prefixes.{numbered, fitting, is_free, free_number, with_prefix};
-ghost use Rattle.xmp_write.specs.Texts.{texts_of};
+ghost use Rattle.xmp_values.specs.Texts.{texts_of};
 ghost use Rattle.xmp_write.specs.Giving.{HasGiven, IsGiven};
 
-use crate::hinted::Hinted;
 use itoa::Buffer;
 use known_prefixes::{begins_xml, is_known, known_prefix};
 use std::alloc::Global;
 use std::collections::BTreeSet;
-use xmp_values::{Bytes, Hint, Memory, Sequence};
+use xmp_values::{Bytes, Hint, HintMap, Memory, Sequence, TextSet};
 
 /// The prefixes that are given so far.
 #[derive(Drop)]
@@ -47,24 +46,19 @@ impl Given {
         }
     }
 
-    /// One namespace more with its prefix.
-    fn with(self, alloc: Global, space: &[u8], prefix: &[u8]) -> Result<Given, Memory>
-        requires { HasGiven self.taken self.list }
-        ensures given { IfOk result (λ g. g.list ≡ self.list ++ record { space = space.now; prefix = prefix.now } ∷ []) }
-        ensures taken { IfOk result (λ g. HasGiven g.taken g.list) }
-        ensures next { IfOk result (λ g. g.next ≡ self.next) }
+    /// Gives a namespace its prefix.
+    fn push(&mut self, alloc: Global, space: &[u8], prefix: &[u8]) -> Result<(), Memory>
+        requires { HasGiven self.old.taken self.old.list }
+        ensures given { OnOk result (self.new.list ≡ self.old.list ++ record { space = space.now; prefix = prefix.now } ∷ []) }
+        ensures taken { OnOk result (HasGiven self.new.taken self.new.list) }
+        ensures next { self.new.next ≡ self.old.next }
     {
-        let Given {
-            mut list,
-            mut taken,
-            next,
-        } = self;
-        taken.insert(Vec::from_slice(alloc, prefix)?)?;
-        list.push(Hint {
+        self.taken.insert(Vec::from_slice(alloc, prefix)?)?;
+        self.list.push(Hint {
             space: Bytes::from_slice(alloc, space)?,
             prefix: Bytes::from_slice(alloc, prefix)?,
         })?;
-        Ok(Given { list, taken, next })
+        Ok(())
     }
 
     /// A hint's prefix, if it may be given.
@@ -85,7 +79,7 @@ impl Given {
     }
 
     /// Whether no hint has the prefix and it isn't given yet.
-    fn is_free(&self, hints: &Hinted<'_>, prefix: &[u8]) -> bool
+    fn is_free(&self, hints: &HintMap<'_>, prefix: &[u8]) -> bool
         requires { HasGiven self.now.taken self.now.list }
         ensures { result ≡ is_free hints.now self.now.list prefix.now }
     {
@@ -93,7 +87,7 @@ impl Given {
     }
 
     /// The least number whose prefix is free.
-    fn free_number(&self, alloc: Global, hints: &Hinted<'_>) -> Result<usize, Memory>
+    fn free_number(&self, alloc: Global, hints: &HintMap<'_>) -> Result<usize, Memory>
         requires { IsGiven hints.now self.now }
         ensures least { IfOk result (λ n. n ≡ free_number hints.now self.now.list) }
         ensures small { IfOk result (λ n. n < 2 ^ 63) }
@@ -108,42 +102,57 @@ impl Given {
         Ok(last + 1)
     }
 
-    /// One namespace more, with the first free number.
-    fn with_number(self, alloc: Global, hints: &Hinted<'_>, space: &[u8]) -> Result<Given, Memory>
-        requires { IsGiven hints.now self }
-        ensures given { IfOk result (λ g. g.list ≡ self.list ++ record { space = space.now; prefix = numbered (free_number hints.now self.list) } ∷ []) }
-        ensures kept { IfOk result (λ g. IsGiven hints.now g) }
+    /// Gives a namespace the first free number.
+    fn push_number(
+        &mut self,
+        alloc: Global,
+        hints: &HintMap<'_>,
+        space: &[u8],
+    ) -> Result<(), Memory>
+        requires { IsGiven hints.now self.old }
+        ensures given { OnOk result (self.new.list ≡ self.old.list ++ record { space = space.now; prefix = numbered (free_number hints.now self.old.list) } ∷ []) }
+        ensures kept { OnOk result (IsGiven hints.now self.new) }
     {
         let number = self.free_number(alloc, hints)?;
         let prefix = numbered(alloc, number)?;
-        let mut given = self.with(alloc, space, prefix.as_slice())?;
-        given.next = number + 1;
-        Ok(given)
+        self.push(alloc, space, prefix.as_slice())?;
+        self.next = number + 1;
+        Ok(())
     }
 
-    /// One namespace more, with the prefix that is due to it.
-    fn with_space(self, alloc: Global, hints: &Hinted<'_>, space: &[u8]) -> Result<Given, Memory>
-        requires { IsGiven hints.now self }
-        ensures given { IfOk result (λ g. g.list ≡ with_prefix hints.now self.list space.now) }
-        ensures kept { IfOk result (λ g. IsGiven hints.now g) }
+    /// Gives a namespace the prefix that is due to it.
+    fn push_space(
+        &mut self,
+        alloc: Global,
+        hints: &HintMap<'_>,
+        space: &[u8],
+    ) -> Result<(), Memory>
+        requires { IsGiven hints.now self.old }
+        ensures given { OnOk result (self.new.list ≡ with_prefix hints.now self.old.list space.now) }
+        ensures kept { OnOk result (IsGiven hints.now self.new) }
     {
         if let Some(prefix) = known_prefix(space) {
-            return self.with(alloc, space, prefix);
+            return self.push(alloc, space, prefix);
         }
         match self.fitting(hints.prefix_of(space)) {
-            Some(prefix) => self.with(alloc, space, prefix),
-            None => self.with_number(alloc, hints, space),
+            Some(prefix) => self.push(alloc, space, prefix),
+            None => self.push_number(alloc, hints, space),
         }
     }
 }
 
 /// The namespaces in their order, each with its prefix.
-pub fn give(alloc: Global, hints: &Hinted<'_>, spaces: &[&[u8]]) -> Result<Sequence<Hint>, Memory>
-    ensures { IfOk result (λ list. list ≡ fold (with_prefix hints.now) [] (texts_of spaces.now)) }
+pub fn give(
+    alloc: Global,
+    hints: &HintMap<'_>,
+    spaces: &TextSet<'_>,
+) -> Result<Sequence<Hint>, Memory>
+    ensures { IfOk result (λ list. list ≡ fold (with_prefix hints.now) [] spaces.now) }
 {
+    let spaces = spaces.as_slice();
     let mut given = Given::new(alloc);
     for space in spaces {
-        given = given.with_space(alloc, hints, space)?;
+        given.push_space(alloc, hints, space)?;
     }
     Ok(given.list)
 }

@@ -7,7 +7,6 @@
 
 mod forms;
 mod giving;
-mod hinted;
 mod laws;
 mod listing;
 mod placing;

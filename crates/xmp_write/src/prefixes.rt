@@ -2,53 +2,36 @@
 ghost use Rattle.std.specs.Prelude.{◌≡◌, ◌+◌, ◌≤◌, [], IfOk, length, slice_get, unwrap_or};
 ghost use Rattle.std.specs.Option.{option_copied, option_map};
 ghost use Rattle.xmp_write.specs.Prefixes.{prefixes, written_prefix};
-ghost use Rattle.xmp_write.specs.Texts.{texts_of};
-ghost use Rattle.xmp_write.specs.Places.{HasPlacesFrom};
 
 use crate::forms::Form;
 use crate::giving::give;
-use crate::hinted::Hinted;
 use crate::uses::declared_spaces;
 use known_prefixes::fixed_prefix;
 use std::alloc::Global;
-use std::collections::BTreeMap;
 use std::marker::Model;
 use xmp_tree::Tree;
-use xmp_values::{Hint, Hints, Memory, Sequence};
+use xmp_values::{Hint, HintMap, Hints, Memory, Sequence, TextSet};
 
 /// The namespaces that a written text declares, each with its prefix, in the order of their first
 /// use. A look-up costs the logarithm of their number.
 #[derive(Drop)]
 pub struct Prefixes<'t> {
     list: Sequence<Hint>,
-    /// The place of each namespace in the list. The namespaces are borrowed from the tree.
-    places: BTreeMap<&'t [u8], usize>,
+    /// The namespaces of the list, borrowed from the tree.
+    spaces: TextSet<'t>,
 }
 
 impl<'t> Model for Prefixes<'t> {
     ghost use Rattle.std.specs.Prelude.{List};
     ghost use Rattle.xmp_values.specs.declared.hints.Hint.{Hint};
-    ghost use Rattle.xmp_write.specs.Places.{HasPlaces};
+    ghost use Rattle.xmp_write.specs.Prefixes.{spaces_in};
+    ghost use Rattle.std.specs.Prelude.{◌≡◌};
 
     ghost Value = { List Hint };
 
     ghost view = { λ p. p.list };
 
-    ghost invariant = { λ p. HasPlaces p.places p.list };
-}
-
-/// The place of each namespace. They are put in from the last on, so that the first of a namespace
-/// counts.
-fn places_of<'t>(alloc: Global, spaces: &[&'t [u8]]) -> Result<BTreeMap<&'t [u8], usize>, Memory>
-    ensures { IfOk result (λ places. HasPlacesFrom 0 places (texts_of spaces.now)) }
-{
-    let mut places = BTreeMap::new(alloc);
-    let mut at = spaces.len();
-    while at > 0 {
-        at -= 1;
-        places.insert(spaces[at], at)?;
-    }
-    Ok(places)
+    ghost invariant = { λ p. p.spaces ≡ spaces_in p.list };
 }
 
 impl<'t> Prefixes<'t> {
@@ -63,12 +46,10 @@ impl<'t> Prefixes<'t> {
         requires { form.now.first + form.now.count ≤ length tree.now.props }
         ensures { IfOk result (λ p. p ≡ prefixes tree.now hints.now form.now) }
     {
-        let uses = declared_spaces(alloc, tree, form)?;
-        let spaces = uses.spaces();
-        let hinted = Hinted::new(alloc, hints)?;
-        let list = give(alloc, &hinted, spaces)?;
-        let places = places_of(alloc, spaces)?;
-        Ok(Prefixes { list, places })
+        let spaces = declared_spaces(alloc, tree, form)?;
+        let hinted = HintMap::new(alloc, hints.as_slice())?;
+        let list = give(alloc, &hinted, &spaces)?;
+        Ok(Prefixes { list, spaces })
     }
 
     /// The number of namespaces.
@@ -110,8 +91,8 @@ impl<'t> Prefixes<'t> {
         if let Some(prefix) = fixed_prefix(space) {
             return prefix;
         }
-        match self.places.get(space) {
-            Some(place) => self.prefix_at(*place),
+        match self.spaces.place_of(space) {
+            Some(place) => self.prefix_at(place),
             None => b"",
         }
     }

@@ -1,6 +1,6 @@
 use Rattle.std.proofs.Common.{◌≡◌, [], fold, take}
+use Rattle.xmp_values.specs.Texts.{texts_of}
 use Rattle.xmp_write.specs.Prefixes.{with_prefix}
-use Rattle.xmp_write.specs.Texts.{texts_of}
 use Rattle.xmp_write.specs.Giving.{IsGiven}
 use Rattle.xmp_write.proofs.giving.give.Given as goal
 
