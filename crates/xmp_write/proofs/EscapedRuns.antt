@@ -20,7 +20,7 @@ chosen false false true d w x y z rest is = absurd cc
 chosen false false false true w x y z rest is = absurd cc
 
 -- a byte that isn't escaped stands for itself
-text_plain : (b : ℕ) → is_escaped_in_text b ≡ false → text_byte b ≡ b ∷ []
+pub text_plain : (b : ℕ) → is_escaped_in_text b ≡ false → text_byte b ≡ b ∷ []
 text_plain b is = chosen (b == 0x26) (b == 0x3C) (b == 0x3E) (b == 0xD) (codes "&amp;") (codes "&lt;") (codes "&gt;") (codes "&#xD;") (b ∷ []) is
 
 three : (a b c : Bool) (w x y rest : List ℕ) → a ≡ false → b ≡ false → c ≡ false → cond a w (cond b x (cond c y rest)) ≡ rest

@@ -20,3 +20,7 @@ pub mod EscapedRuns
 pub mod PutValues
 pub mod TextParts
 pub mod PutPackets
+pub mod SameTexts
+pub mod FrontTexts
+pub mod FrontLengths
+pub mod SplitSteps

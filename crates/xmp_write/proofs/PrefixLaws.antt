@@ -23,7 +23,7 @@ use Rattle.xmp_write.specs.Prefixes.{spaces_in}
 use Rattle.xmp_write.proofs.PlaceMaps.{spaces_in-given}
 
 -- a namespace of a list has a prefix there
-listed : (ps : List Hint) (space : List ℕ) → list_any (bytes_eq space) (spaces_in ps) ≡ true → (prefix : List ℕ) × (prefix_in ps space ≡ Some prefix)
+pub listed : (ps : List Hint) (space : List ℕ) → list_any (bytes_eq space) (spaces_in ps) ≡ true → (prefix : List ℕ) × (prefix_in ps space ≡ Some prefix)
 listed [] space is = absurd cc
 listed (h ∷ hs) space is = by (bytes_eq space h.space) is (listed hs space)
   where

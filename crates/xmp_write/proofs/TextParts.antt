@@ -53,7 +53,7 @@ module _ (ps : List Hint) where
       (ap (λ p. element_text (p ++ codes ":" ++ codes "HasExtendedXMP") [] (text_escaped text) ++ codes "\n") named
       ∙ ap (λ d. element_text (spelled ps note_name) [] (text_escaped d) ++ codes "\n") is ∙ sym (note_line digits))
 
-declared_text-append : (xs ys : List Hint) → declared_text (xs ++ ys) ≡ declared_text xs ++ declared_text ys
+pub declared_text-append : (xs ys : List Hint) → declared_text (xs ++ ys) ≡ declared_text xs ++ declared_text ys
 declared_text-append [] ys = refl
 declared_text-append (h ∷ hs) ys =
     ap (λ rest. attribute_text (codes "xmlns:" ++ h.prefix) h.space ++ rest) (declared_text-append hs ys) ∙ sym (append_assoc (attribute_text (codes "xmlns:" ++ h.prefix) h.space) (declared_text hs) (declared_text ys))

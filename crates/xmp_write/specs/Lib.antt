@@ -4,6 +4,7 @@ pub mod Prefixes
 pub mod PrefixLaws
 pub mod Text
 pub mod WrittenPackets
+pub mod Splits
 pub mod Lines
 pub mod Placing
 pub mod Giving

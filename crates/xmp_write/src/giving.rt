@@ -121,12 +121,7 @@ impl Given {
     }
 
     /// Gives a namespace the prefix that is due to it.
-    fn push_space(
-        &mut self,
-        alloc: Global,
-        hints: &HintMap<'_>,
-        space: &[u8],
-    ) -> Result<(), Memory>
+    fn push_space(&mut self, alloc: Global, hints: &HintMap<'_>, space: &[u8]) -> Result<(), Memory>
         requires { IsGiven hints.now self.old }
         ensures given { OnOk result (self.new.list ≡ with_prefix hints.now self.old.list space.now) }
         ensures kept { OnOk result (IsGiven hints.now self.new) }

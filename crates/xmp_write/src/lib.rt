@@ -11,6 +11,7 @@ mod laws;
 mod listing;
 mod placing;
 mod prefixes;
+mod splits;
 #[cfg(test)]
 mod tree_tests;
 mod uses;
@@ -23,5 +24,6 @@ pub use forms::Form;
 pub use laws::{prefixes_are_told_apart, the_least_free_number};
 pub use listing::lines;
 pub use prefixes::Prefixes;
+pub use splits::{Split, SplitStop};
 pub use writing::{measure, packet_into, pad_into, write_into};
 pub use xmp_packets::{Packet, PacketInfo};

@@ -1,7 +1,7 @@
 //! The prefixes of a written text.
-ghost use Rattle.std.specs.Prelude.{◌≡◌, ◌+◌, ◌≤◌, [], IfOk, length, slice_get, unwrap_or};
+ghost use Rattle.std.specs.Prelude.{◌≡◌, ◌+◌, ◌≤◌, [], IfOk, fold, length, slice_get, unwrap_or};
 ghost use Rattle.std.specs.Option.{option_copied, option_map};
-ghost use Rattle.xmp_write.specs.Prefixes.{prefixes, written_prefix};
+ghost use Rattle.xmp_write.specs.Prefixes.{prefixes, with_prefix, written_prefix};
 
 use crate::forms::Form;
 use crate::giving::give;
@@ -48,7 +48,18 @@ impl<'t> Prefixes<'t> {
     {
         let spaces = declared_spaces(alloc, tree, form)?;
         let hinted = HintMap::new(alloc, hints.as_slice())?;
-        let list = give(alloc, &hinted, &spaces)?;
+        Prefixes::given(alloc, &hinted, spaces)
+    }
+
+    /// The prefixes of these namespaces.
+    pub fn given(
+        alloc: Global,
+        hints: &HintMap<'_>,
+        spaces: TextSet<'t>,
+    ) -> Result<Prefixes<'t>, Memory>
+        ensures { IfOk result (λ p. p ≡ fold (with_prefix hints.now) [] spaces.entry) }
+    {
+        let list = give(alloc, hints, &spaces)?;
         Ok(Prefixes { list, spaces })
     }
 

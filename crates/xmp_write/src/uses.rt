@@ -1,6 +1,7 @@
 //! The namespaces that a written text declares, in the order of their first use.
 ghost use Rattle.std.specs.Prelude.{◌≡◌, ◌+◌, ◌≤◌, [], fold, length, IfOk, OnOk};
 ghost use Rattle.std.specs.List.{flat_map};
+ghost use Rattle.xmp_tree.specs.Wf.{note_name};
 ghost use Rattle.xmp_write.specs.Written.{value_spaces, shape_spaces, member_spaces, note_spaces};
 ghost use Rattle.xmp_write.specs.Prefixes.{with_use, declared_spaces};
 
@@ -49,7 +50,7 @@ pub fn use_member<'t>(uses: &mut TextSet<'t>, member: &'t Member<'_>) -> Result<
 }
 
 #[cycle(uses)]
-fn use_members<'t>(uses: &mut TextSet<'t>, members: &'t [Member<'_>]) -> Result<(), Memory>
+pub fn use_members<'t>(uses: &mut TextSet<'t>, members: &'t [Member<'_>]) -> Result<(), Memory>
     ensures { OnOk result (uses.new ≡ fold with_use uses.old (flat_map member_spaces members.now)) }
 {
     for member in members {
@@ -68,13 +69,20 @@ fn use_items<'t>(uses: &mut TextSet<'t>, items: &'t [Value<'_>]) -> Result<(), M
     Ok(())
 }
 
-/// Puts the namespace of the note, where it is written, behind those used before.
+/// Puts the namespace of the note behind those used before.
 #[tactic(auto, unfolding(xmp_tree::specs::Wf::note_name))]
-pub fn use_note<'t>(uses: &mut TextSet<'t>, note: &Option<Digits>) -> Result<(), Memory>
+pub fn use_note_space(uses: &mut TextSet<'_>) -> Result<(), Memory>
+    ensures { OnOk result (uses.new ≡ with_use uses.old note_name.space) }
+{
+    use_space(uses, b"http://ns.adobe.com/xmp/note/")
+}
+
+/// Puts the namespace of the note, where it is written, behind those used before.
+fn use_note<'t>(uses: &mut TextSet<'t>, note: &Option<Digits>) -> Result<(), Memory>
     ensures { OnOk result (uses.new ≡ fold with_use uses.old (note_spaces note.now)) }
 {
     match note {
-        Some(_) => use_space(uses, b"http://ns.adobe.com/xmp/note/"),
+        Some(_) => use_note_space(uses),
         None => Ok(()),
     }
 }

@@ -1,6 +1,6 @@
 //! The canonical text of a tree and its packet (ISO 16684-1, 7.3 and 7.4). Nothing here takes
 //! memory.
-ghost use Rattle.std.specs.Prelude.{◌≡◌, ◌+◌, ◌-◌, ◌^◌, ◌<◌, ◌≤◌, ◌++◌, length, min};
+ghost use Rattle.std.specs.Prelude.{◌≡◌, ◌+◌, ◌-◌, ◌^◌, ◌<◌, ◌≤◌, ◌++◌, Some, length, min};
 ghost use Rattle.xmp_write.specs.Text.{declared_text, lines_text, written_text};
 ghost use Rattle.xmp_write.specs.Written.{note_members, written_props};
 ghost use Rattle.xmp_write.specs.WrittenPackets.{least_len, packet, pad, pad_byte};
@@ -11,13 +11,12 @@ use crate::placing::{Spelled, put, put_attribute, rdf};
 use crate::prefixes::Prefixes;
 use crate::values::{put_member, put_simple};
 use xmp_tree::{Member, Tree};
-use xmp_values::Digits;
+use xmp_values::{Digits, Hint};
 
 /// Puts the declarations of prefixes, each an attribute (Namespaces in XML 1.0, section 3).
-fn put_declarations(to: &mut [u8], at: u64, prefixes: &Prefixes<'_>) -> u64
-    ensures { Puts to.old to.new at result (declared_text prefixes.now) }
+pub fn put_declarations(to: &mut [u8], at: u64, hints: &[Hint]) -> u64
+    ensures { Puts to.old to.new at result (declared_text hints.now) }
 {
-    let hints = prefixes.as_slice();
     let mut behind = at;
     for hint in hints {
         let name = Spelled {
@@ -41,19 +40,24 @@ fn put_lines(to: &mut [u8], at: u64, prefixes: &Prefixes<'_>, props: &[Member<'_
     behind
 }
 
+/// Puts a note of these digits as a property.
+pub fn put_note_line(to: &mut [u8], at: u64, prefixes: &Prefixes<'_>, digits: &[u8]) -> u64
+    ensures { Puts to.old to.new at result (lines_text prefixes.now (note_members (Some digits.now))) }
+{
+    let name = Spelled {
+        prefix: prefixes.prefix_of(b"http://ns.adobe.com/xmp/note/"),
+        local: b"HasExtendedXMP",
+    };
+    let at = put_simple(to, at, name, None, digits);
+    put(to, at, b"\n")
+}
+
 /// Puts the note as a property, where it is written.
 fn put_note(to: &mut [u8], at: u64, prefixes: &Prefixes<'_>, note: &Option<Digits>) -> u64
     ensures { Puts to.old to.new at result (lines_text prefixes.now (note_members note.now)) }
 {
     match note {
-        Some(digits) => {
-            let name = Spelled {
-                prefix: prefixes.prefix_of(b"http://ns.adobe.com/xmp/note/"),
-                local: b"HasExtendedXMP",
-            };
-            let at = put_simple(to, at, name, None, digits.bytes());
-            put(to, at, b"\n")
-        }
+        Some(digits) => put_note_line(to, at, prefixes, digits.bytes()),
         None => put(to, at, b""),
     }
 }
@@ -70,7 +74,7 @@ fn put_text(to: &mut [u8], at: u64, tree: &Tree<'_>, prefixes: &Prefixes<'_>, fo
         b"<x:xmpmeta xmlns:x=\"adobe:ns:meta/\">\n<rdf:RDF xmlns:rdf=\"http://www.w3.org/1999/02/22-rdf-syntax-ns#\">\n<rdf:Description",
     );
     let at = put_attribute(to, at, rdf(b"about"), tree.about.bytes());
-    let at = put_declarations(to, at, prefixes);
+    let at = put_declarations(to, at, prefixes.as_slice());
     let at = put(to, at, b">\n");
     let at = put_note(to, at, prefixes, &form.note);
     let at = put_lines(

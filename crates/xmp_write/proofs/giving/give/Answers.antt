@@ -1,5 +1,4 @@
 use Rattle.std.proofs.Common.{ℕ, List, Bor, [], fold, take, get_or, sym, ap, ◌∙◌}
-use Rattle.std.proofs.lemmas.List.{take_all}
 use Rattle.std.proofs.lemmas.List.Sums.{fold_push}
 use Rattle.xmp_values.specs.Texts.{texts_of}
 use Rattle.xmp_write.specs.Prefixes.{with_prefix}

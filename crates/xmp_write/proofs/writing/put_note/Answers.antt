@@ -1,7 +1,11 @@
-use Rattle.xmp_write.proofs.TextParts.{note_put}
+use Rattle.std.proofs.Common.{Some, ap}
+use Rattle.xmp_write.specs.Text.{lines_text}
+use Rattle.xmp_write.specs.Written.{note_members}
+use Rattle.xmp_write.proofs.PlacedPieces.{puts_as}
 use Rattle.xmp_write.proofs.writing.put_note.Goals as goal
 
 pub returns-in-Some : goal.returns-in-Some
 returns-in-Some c =
-    let told = note_put c.args.prefixes.now c.prefix_of.result.now c.in-Some.digits c.bytes.result.now c.prefix_of.ensures c.bytes.ensures.value c.put_simple-at.ensures c.put.ensures in
+    let ps = c.args.prefixes.now in
+    let told = puts_as (lines_text ps (note_members (Some c.in-Some.digits))) c.put_note_line.ensures (ap (λ digits. lines_text ps (note_members (Some digits))) c.bytes.ensures.value) in
     rw c.in-Some.is told
