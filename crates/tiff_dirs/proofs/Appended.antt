@@ -1,12 +1,11 @@
 -- Every table of a file whose offsets have no fault lies in it, so bytes put at its end change none.
-use Rattle.std.proofs.Common.{◌≡◌, ◌≢◌, ◌==◌, ℕ, zero, suc, ◌+◌, ◌-◌, ◌*◌, ◌<◌, ◌≤◌, ◌⊎◌, inl, inr, nat_le, nat_lt, ◌&&◌, ◌||◌, not, Bool, true, false, if◌then◌else◌, List, [], ◌∷◌, ◌++◌, length, take, drop, get_or, refl, sym, ap, subst, ◌∙◌, arith, None, Some, All, Contains}
+use Rattle.std.proofs.Common.{◌≡◌, ◌≢◌, ◌==◌, ℕ, zero, suc, ◌+◌, ◌-◌, ◌*◌, ◌<◌, ◌≤◌, ◌⊎◌, inl, inr, nat_le, nat_lt, ◌&&◌, ◌||◌, not, Bool, true, false, if◌then◌else◌, List, [], ◌∷◌, ◌++◌, length, take, drop, refl, sym, ap, subst, ◌∙◌, arith, None, Some, All, Contains}
 use Rattle.std.specs.declared.option.Option.{Option}
-use Rattle.std.specs.List.{flat_map, slice_get, list_any}
-use Rattle.std.specs.Option.{option_or}
+use Rattle.std.specs.List.{flat_map, list_any}
 use Rattle.std.proofs.Math.Nat.{mul-suc}
 use Rattle.std.proofs.lemmas.Bool.Decides.{nat_tests}
 use Rattle.std.proofs.lemmas.List.{length-append, length-drop, take-append-le}
-use Rattle.std.proofs.lemmas.List.Elements.{All-nil, All-cons, All-contains, Contains-append_right, Contains-append_cases}
+use Rattle.std.proofs.lemmas.List.Elements.{All-nil, All-cons, Contains-append_right, Contains-append_cases}
 use Rattle.std.proofs.lemmas.Option.{slice_get-get_or}
 use Rattle.xmp_base.specs.declared.file_span.FileSpan.{FileSpan}
 use Rattle.xmp_values.specs.declared.rules.Rule.TheVariants.{DirectoryLong, DirectoryOut, DirectoryTwice, TooManyDirectories, ValueOut}
@@ -17,14 +16,14 @@ use Rattle.tiff_dirs.specs.declared.stop.TiffStop.TheVariants.{Fault}
 use Rattle.tiff_dirs.specs.Numbers.{number}
 use Rattle.tiff_dirs.specs.Layouts.{Widths, layout_of}
 use Rattle.tiff_dirs.specs.Types.{size_of}
-use Rattle.tiff_dirs.specs.Directories.{span, value_at, entry_at, entries_from, entries_at, count_at, end_at, is_apart}
+use Rattle.tiff_dirs.specs.Directories.{span, value_at, entry_at, entries_from, entries_at, count_at, end_at}
 use Rattle.tiff_dirs.specs.Pictures.{pictures_of}
 use Rattle.tiff_dirs.specs.Faults.{broken, value_out, tag_fault, entry_fault, entries_fault, pictures_fault, inner_fault, place_fault, fault_at, is_packet_tag}
 use Rattle.tiff_dirs.specs.Offsets.{Walks}
 use Rattle.tiff_dirs.specs.Tiff.{tiff_of}
 use Rattle.tiff_dirs.specs.Tables.{is_table, table_of, tables_in, tables_at, tables_of}
-use Rattle.tiff_dirs.specs.Frames.{bytes_in, Agree}
-use Rattle.tiff_dirs.proofs.Framed.{framed, layout_widths, or_first, or_second, place_by}
+use Rattle.tiff_dirs.specs.Frames.{bytes_in}
+use Rattle.tiff_dirs.proofs.Framed.{framed, layout_widths, or_first, or_second}
 use Rattle.tiff_dirs.proofs.Walks.{split_by}
 
 inside_by : (m y i : Bool) (x u v w : Option TiffStop) → x ≢ None → u ≢ None → v ≢ None → (if m then x else (if y then u else (if not i then v else w))) ≡ None → i ≡ true

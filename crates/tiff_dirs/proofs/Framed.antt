@@ -1,10 +1,10 @@
 -- A file that agrees with another in its tables, and is no shorter, has the same directories.
-use Rattle.std.proofs.Common.{◌≡◌, ◌≢◌, ◌==◌, ℕ, zero, suc, ◌+◌, ◌-◌, ◌*◌, ◌<◌, ◌≤◌, nat_le, nat_lt, ◌&&◌, ◌||◌, not, Bool, true, false, if◌then◌else◌, List, [], ◌∷◌, ◌++◌, length, take, drop, map, refl, sym, ap, subst, ◌∙◌, arith, None, Some, All, Contains}
+use Rattle.std.proofs.Common.{◌≡◌, ◌≢◌, ◌==◌, ℕ, ◌+◌, ◌≤◌, nat_le, nat_lt, ◌&&◌, ◌||◌, not, Bool, true, false, if◌then◌else◌, List, [], ◌∷◌, ◌++◌, length, take, map, refl, sym, ap, subst, ◌∙◌, arith, None, Some, All, Contains}
 use Rattle.std.specs.declared.option.Option.{Option}
 use Rattle.std.specs.List.{flat_map, slice_get, list_any}
 use Rattle.std.specs.Option.{option_or}
 use Rattle.std.proofs.lemmas.Bool.Decides.{nat_tests}
-use Rattle.std.proofs.lemmas.List.Elements.{All-contains, Contains-append_left, Contains-append_right}
+use Rattle.std.proofs.lemmas.List.Elements.{All-contains, Contains-append_right}
 use Rattle.std.proofs.lemmas.Option.{slice_get_within, get_or_from_slice_get}
 use Rattle.xmp_base.specs.declared.file_span.FileSpan.{FileSpan}
 use Rattle.xmp_values.specs.declared.rules.Rule.TheVariants.{DirectoryLong, DirectoryOut, DirectoryTwice, TooManyDirectories}
@@ -14,7 +14,7 @@ use Rattle.tiff_dirs.specs.declared.stop.TiffStop.{TiffStop}
 use Rattle.tiff_dirs.specs.declared.stop.TiffStop.TheVariants.{Fault}
 use Rattle.tiff_dirs.specs.Numbers.{number}
 use Rattle.tiff_dirs.specs.Layouts.{Widths, classic, wide, layout_by, layout_of}
-use Rattle.tiff_dirs.specs.Directories.{span, entries_at, entries_from, count_at, end_at, next_place, chained, named, children}
+use Rattle.tiff_dirs.specs.Directories.{span, entries_at, count_at, end_at, next_place, chained, named, children}
 use Rattle.tiff_dirs.specs.Pictures.{Picture, pictures_of, spans_of}
 use Rattle.tiff_dirs.specs.Faults.{broken, value_out, tag_fault, entry_fault, entries_fault, pictures_fault, inner_fault, place_fault, fault_at, is_packet_tag}
 use Rattle.tiff_dirs.specs.Offsets.{first_offset, all_named, Reaches, Walks}
@@ -34,7 +34,7 @@ pub or_second : (x y : Option TiffStop) → option_or x y ≡ None → y ≡ Non
 or_second None y e = e
 or_second (Some x) y e = (cc)
 
-or_none : (x y : Option TiffStop) → x ≡ None → y ≡ None → option_or x y ≡ None
+pub or_none : (x y : Option TiffStop) → x ≡ None → y ≡ None → option_or x y ≡ None
 or_none x y a b = ap (λ (p : Option TiffStop). option_or p y) a ∙ b
 
 -- a bound that is no less
@@ -158,10 +158,10 @@ module _ (l : Layout) (widths : Widths l) (a b : List ℕ) (longer : length a �
   pub shown_same : pictures_at l b at ≡ pictures_at l a at
   shown_same = ap spans_of pictures
 
-member : (xs : List ℕ) (k x : ℕ) → slice_get xs k ≡ Some x → Contains xs x
+pub member : (xs : List ℕ) (k x : ℕ) → slice_get xs k ≡ Some x → Contains xs x
 member xs k x e = (k, slice_get_within xs k x e, get_or_from_slice_get xs k x x e)
 
-tail_member : (y : ℕ) (ys : List ℕ) (x : ℕ) → Contains ys x → Contains (y ∷ ys) x
+pub tail_member : (y : ℕ) (ys : List ℕ) (x : ℕ) → Contains ys x → Contains (y ∷ ys) x
 tail_member y ys x h = Contains-append_right (y ∷ []) ys x h
 
 module _ (l : Layout) (widths : Widths l) (a b : List ℕ) (longer : length a ≤ length b) (whole : List ℕ) (same : (r : FileSpan) → Contains (tables_of l a whole) r → bytes_in b r ≡ bytes_in a r) where

@@ -1,25 +1,21 @@
 -- What a walk gives depends on the tables of a file alone.
-use Rattle.std.proofs.Common.{◌≡◌, ◌≢◌, ◌==◌, ℕ, zero, suc, ◌+◌, ◌-◌, ◌*◌, ◌<◌, ◌≤◌, nat_le, nat_lt, ◌&&◌, ◌||◌, not, Bool, true, false, if◌then◌else◌, List, [], ◌∷◌, ◌++◌, length, take, drop, map, refl, sym, ap, subst, ◌∙◌, arith, None, Some, All, Contains}
+use Rattle.std.proofs.Common.{◌≡◌, ◌==◌, ℕ, zero, suc, ◌+◌, ◌-◌, ◌*◌, ◌<◌, ◌≤◌, nat_le, Bool, true, false, if◌then◌else◌, List, [], ◌∷◌, ◌++◌, refl, sym, ap, ◌∙◌, arith, None, Some, All, Contains}
 use Rattle.std.specs.declared.option.Option.{Option}
-use Rattle.std.specs.List.{flat_map, slice_get}
-use Rattle.std.specs.Option.{option_or}
+use Rattle.std.specs.List.{flat_map}
 use Rattle.std.proofs.lemmas.Bool.Decides.{nat_tests}
-use Rattle.std.proofs.lemmas.List.Elements.{All-nil, All-cons, All-contains, Contains-append_left, Contains-append_right}
-use Rattle.std.proofs.lemmas.Option.{slice_get_within, get_or_from_slice_get}
+use Rattle.std.proofs.lemmas.List.Elements.{All-nil, All-cons, Contains-append_right}
 use native.Mathlib.Nat.{mul-le-mul_left}
 use Rattle.xmp_base.specs.declared.file_span.FileSpan.{FileSpan}
 use Rattle.tiff_dirs.specs.declared.layout.Layout.{Layout}
 use Rattle.tiff_dirs.specs.declared.entry.Entry.{Entry}
-use Rattle.tiff_dirs.specs.declared.stop.TiffStop.{TiffStop}
 use Rattle.tiff_dirs.specs.Numbers.{number, numbers}
-use Rattle.tiff_dirs.specs.Layouts.{Widths, layout_by, layout_of}
+use Rattle.tiff_dirs.specs.Layouts.{Widths}
 use Rattle.tiff_dirs.specs.Types.{size_of, is_offset}
-use Rattle.tiff_dirs.specs.Directories.{span, value_at, entry_at, entries_from, count_at, entries_at, next_place, end_at, chained, named, named_by, named_count, children, is_apart}
-use Rattle.tiff_dirs.specs.Pictures.{Picture, items_of, ranges, ranges_of, are_paired, first_of_tag, pair, pictures_of, spans_of}
-use Rattle.tiff_dirs.specs.Faults.{broken, value_out, tag_fault, entry_fault, entries_fault, pictures_fault, inner_fault, place_fault, fault_at, is_packet_tag}
+use Rattle.tiff_dirs.specs.Directories.{span, value_at, entry_at, entries_from, count_at, entries_at, next_place, end_at, named, named_by, named_count}
+use Rattle.tiff_dirs.specs.Pictures.{Picture, items_of, ranges, ranges_of, are_paired, first_of_tag, pair, pictures_of}
 use Rattle.tiff_dirs.specs.Parts.{entries_in_part}
 use Rattle.tiff_dirs.specs.Frames.{bytes_in}
-use Rattle.tiff_dirs.specs.Tables.{is_table, table_of, tables_in, tables_at}
+use Rattle.tiff_dirs.specs.Tables.{is_table, table_of, tables_in}
 use Rattle.tiff_dirs.proofs.Piece.{number_part, numbers_part, entries_part}
 use Rattle.tiff_dirs.proofs.Members.{table_one, table_found, found_tag}
 use Rattle.tiff_dirs.proofs.Shown.{find_all}
