@@ -5,14 +5,10 @@ use Rattle.std.specs.List.{list_any}
 use Rattle.std.proofs.lemmas.List.Elements.{Decides-contains}
 use Rattle.std.proofs.lemmas.Bool.Decides.{same_from_decides, Decides-like, Decides-by_or}
 use Rattle.xmp_values.specs.declared.text.Name.{Name}
-use Rattle.xml_grammar.proofs.Repeats as repeats
+use Rattle.xmp_tree.proofs.PlaceLemmas.{same_name_is}
 use Rattle.rdf_forms.specs.Words.{same_name}
 use Rattle.rdf_forms.specs.MemberRules.{has_again, has_common}
 use Rattle.rdf_forms.specs.Entering.{Holds, clashes}
-
-pub same_name_is : (m n : Name) → (same_name m n ≡ true) ↔ (m ≡ n)
-unfolding same_name
-same_name_is m n = repeats.same_name_is m n
 
 -- a name stands among others where they contain it
 abbrev pub stands : Name → List Name → Bool

@@ -22,7 +22,7 @@ mod visits;
 mod words;
 
 pub use formed::Formed;
-pub use forms::{Form, form_of};
+pub use forms::Form;
 pub use laws::{least_rule, settled_levels};
 pub use name_rules::{about_bytes, about_text};
 pub use parts::{first_element, lang_value, rdf_value};

@@ -9,16 +9,12 @@ use Rattle.xml_grammar.specs.Nesting.{has_twice}
 use Rattle.xml_grammar.specs.Sound.{IsSoundName}
 use Rattle.xml_grammar.proofs.SoundPieces.{same_bytes, bytes_same}
 use Rattle.xml_grammar.proofs.Repeats.{apart_from_test, fails_differ}
-use Rattle.xml_grammar.proofs.Repeats as repeats
+pub use Rattle.xmp_tree.proofs.PlaceLemmas.{same_name_is}
 use Rattle.xmp_tree.specs.Wf.{IsOwnSpace, IsNamed, lang_name, type_name}
 use Rattle.rdf_forms.specs.Words.{rdf_space, xml_space, same_name, rdf, is_rdf, in_rdf, in_xml, in_none, is_own}
 use Rattle.rdf_forms.specs.MemberRules.{has_again}
 
 -- ---- names that are the same
-
-pub same_name_is : (m n : Name) → (same_name m n ≡ true) ↔ (m ≡ n)
-unfolding same_name
-same_name_is m n = repeats.same_name_is m n
 
 again_is : (ns : List Name) → has_again ns ≡ has_twice same_name ns
 again_is [] = refl

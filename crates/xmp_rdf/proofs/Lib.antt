@@ -8,3 +8,4 @@ pub mod RootReadings
 pub mod HintSets
 pub mod Twice
 pub mod PartLaws
+pub mod SettledReadings

@@ -8,6 +8,7 @@
 
 mod abouts;
 mod hints;
+mod laws;
 mod meanings;
 mod members;
 mod merging;
@@ -23,6 +24,7 @@ mod tops;
 mod values;
 mod walk;
 
+pub use laws::settled_reading;
 pub use meanings::{Meaning, Places};
 pub use merging::{MergeStop, merge};
 pub use owning::own;
