@@ -2,7 +2,6 @@
 
 use crate::{TokenStop, behind_mark, text_of, token_of};
 use std::alloc::Global;
-use std::test::Fail;
 use xml_grammar::{Mode, QName, Tag, Token};
 use xmp_values::Rule;
 
@@ -108,16 +107,23 @@ const SPELLINGS: [Spelled; 22] = [
     (Mode::Outside, "]]>", "run", "]]>", ""),
 ];
 
-#[test]
-fn reads_each_spelling(rt: HostRuntime) -> Result<(), Fail> {
-    for (mode, text, kind, carried, left) in SPELLINGS {
-        let (token, rest) = first_token(rt.alloc(), mode, text)?;
-        let (is, bytes) = shown(&token);
-        assert_eq!(rt; is, kind, "of {text}");
-        assert_eq!(rt; bytes, carried.as_bytes(), "of {text}");
-        assert_eq!(rt; rest, left, "of {text}");
+/// Whether the first token of a text is of this kind, carries this, and leaves this text.
+fn is_spelled(alloc: Global, spelled: Spelled) -> bool {
+    let (mode, text, kind, carried, left) = spelled;
+    match first_token(alloc, mode, text) {
+        Ok((token, rest)) => {
+            let (is, bytes) = shown(&token);
+            is == kind && bytes == carried.as_bytes() && rest == left
+        }
+        Err(_) => false,
     }
-    Ok(())
+}
+
+#[test]
+fn reads_each_spelling(rt: HostRuntime) {
+    for spelled in SPELLINGS {
+        assert!(rt; is_spelled(rt.alloc(), spelled), "of {}", spelled.1);
+    }
 }
 
 const REFERENCES: [(&str, char); 9] = [
@@ -132,17 +138,19 @@ const REFERENCES: [(&str, char); 9] = [
     ("&#x10FFFF;", '\u{10FFFF}'),
 ];
 
-#[test]
-fn reads_references(rt: HostRuntime) -> Result<(), Fail> {
-    for (text, want) in REFERENCES {
-        let (token, rest) = first_token(rt.alloc(), Mode::Inside, text)?;
-        let Token::Reference(c) = token else {
-            return Err("no reference")?;
-        };
-        assert_eq!(rt; c, want, "of {text}");
-        assert!(rt; rest.is_empty(), "of {text}");
+/// The character that a whole text is a reference to.
+fn referred(alloc: Global, text: &str) -> Option<char> {
+    match first_token(alloc, Mode::Inside, text) {
+        Ok((Token::Reference(c), "")) => Some(c),
+        _ => None,
     }
-    Ok(())
+}
+
+#[test]
+fn reads_references(rt: HostRuntime) {
+    for (text, want) in REFERENCES {
+        assert!(rt; referred(rt.alloc(), text) == Some(want), "of {text}");
+    }
 }
 
 fn prefix_of<'a>(name: &'a QName<'_>) -> &'a [u8] {
@@ -153,7 +161,15 @@ fn prefix_of<'a>(name: &'a QName<'_>) -> &'a [u8] {
 }
 
 /// A tag, its prefix, and its first attribute's prefix, local name and value.
-const VALUES: [(&str, &str, &str, &str, &str); 5] = [
+type Valued = (
+    &'static str,
+    &'static str,
+    &'static str,
+    &'static str,
+    &'static str,
+);
+
+const VALUES: [Valued; 5] = [
     ("<a b=\"\">", "", "", "b", ""),
     ("<a b=\"it's > \u{E9}\">", "", "", "b", "it's > \u{E9}"),
     ("<a b='a\tb\nc\r\nd\re'>", "", "", "b", "a b c d e"),
@@ -161,20 +177,34 @@ const VALUES: [(&str, &str, &str, &str, &str); 5] = [
     ("<x:a rdf:about='u'>", "x", "rdf", "about", "u"),
 ];
 
-#[test]
-fn reads_values(rt: HostRuntime) -> Result<(), Fail> {
-    for (text, outer, prefix, local, want) in VALUES {
-        let (token, _) = first_token(rt.alloc(), Mode::Inside, text)?;
-        let Token::Start(tag) = token else {
-            return Err("no tag")?;
-        };
-        assert_eq!(rt; prefix_of(&tag.name), outer.as_bytes(), "of {text}");
-        let attribute = tag.attributes.get(0).ok_or("no attribute")?;
-        assert_eq!(rt; prefix_of(&attribute.name), prefix.as_bytes(), "of {text}");
-        assert_eq!(rt; attribute.name.local.bytes(), local.as_bytes(), "of {text}");
-        assert_eq!(rt; attribute.value.bytes(), want.as_bytes(), "of {text}");
+fn is_named(name: &QName<'_>, prefix: &str, local: &str) -> bool {
+    prefix_of(name) == prefix.as_bytes() && name.local.bytes() == local.as_bytes()
+}
+
+fn has_value(tag: &Tag<'_>, prefix: &str, local: &str, value: &str) -> bool {
+    match tag.attributes.get(0) {
+        Some(attribute) => {
+            is_named(&attribute.name, prefix, local) && attribute.value.bytes() == value.as_bytes()
+        }
+        None => false,
     }
-    Ok(())
+}
+
+fn is_valued(alloc: Global, valued: Valued) -> bool {
+    let (text, outer, prefix, local, value) = valued;
+    match first_token(alloc, Mode::Inside, text) {
+        Ok((Token::Start(tag), _)) => {
+            is_named(&tag.name, outer, "a") && has_value(&tag, prefix, local, value)
+        }
+        _ => false,
+    }
+}
+
+#[test]
+fn reads_values(rt: HostRuntime) {
+    for valued in VALUES {
+        assert!(rt; is_valued(rt.alloc(), valued), "of {}", valued.0);
+    }
 }
 
 const REFUSALS: [(Mode, &str, Rule); 41] = [
@@ -233,16 +263,18 @@ const REFUSALS: [(Mode, &str, Rule); 41] = [
     (Mode::Inside, "<![CDATA[a]]", Rule::BadCdata),
 ];
 
-#[test]
-fn refuses_each_rule(rt: HostRuntime) -> Result<(), Fail> {
-    for (mode, text, rule) in REFUSALS {
-        match first_token(rt.alloc(), mode, text) {
-            Ok(_) => return Err("a token was read")?,
-            Err(TokenStop::Memory) => return Err("no memory")?,
-            Err(TokenStop::Fault(fault)) => assert_eq!(rt; fault, rule, "of {text}"),
-        }
+fn is_refused(alloc: Global, mode: Mode, text: &str, rule: Rule) -> bool {
+    match first_token(alloc, mode, text) {
+        Err(stop) => stop == TokenStop::Fault(rule),
+        Ok(_) => false,
     }
-    Ok(())
+}
+
+#[test]
+fn refuses_each_rule(rt: HostRuntime) {
+    for (mode, text, rule) in REFUSALS {
+        assert!(rt; is_refused(rt.alloc(), mode, text, rule), "of {text}");
+    }
 }
 
 /// The first place at which no token stands, and the rule.
@@ -262,21 +294,30 @@ fn first_stop(alloc: Global, text: &str) -> Option<(Rule, usize)> {
     None
 }
 
+const STOPS: [(&str, Rule, usize); 3] = [
+    ("<a>]]></a>", Rule::BadChar, 3),
+    ("<a>&copy;</a>", Rule::BadReference, 3),
+    ("\u{FEFF}<a>&#0;</a>", Rule::BadReference, 6),
+];
+
 #[test]
-fn tells_places(rt: HostRuntime) -> Result<(), Fail> {
-    let alloc = rt.alloc();
-    assert_eq!(rt; first_stop(alloc, "<a>]]></a>"), Some((Rule::BadChar, 3)));
-    assert_eq!(rt;
-        first_stop(alloc, "<a>&copy;</a>"),
-        Some((Rule::BadReference, 3))
-    );
-    assert_eq!(rt;
-        first_stop(alloc, "\u{FEFF}<a>&#0;</a>"),
-        Some((Rule::BadReference, 6))
-    );
-    assert_eq!(rt; text_of(b"\xFE\xFF\0<").err(), Some((Rule::Utf16, 0)));
-    assert_eq!(rt; text_of(b"\xFF\xFE<\0").err(), Some((Rule::Utf16, 0)));
-    assert_eq!(rt; text_of(b"<a>\xE9</a>").err(), Some((Rule::NotUtf8, 3)));
+fn tells_places(rt: HostRuntime) {
+    for (text, rule, at) in STOPS {
+        assert!(rt;
+            first_stop(rt.alloc(), text) == Some((rule, at)),
+            "of {text}"
+        );
+    }
+}
+
+fn is_of_bytes(bytes: &[u8], rule: Rule, at: u64) -> bool {
+    text_of(bytes).err() == Some((rule, at))
+}
+
+#[test]
+fn tells_texts_in_other_encodings(rt: HostRuntime) {
+    assert!(rt; is_of_bytes(b"\xFE\xFF\0<", Rule::Utf16, 0));
+    assert!(rt; is_of_bytes(b"\xFF\xFE<\0", Rule::Utf16, 0));
+    assert!(rt; is_of_bytes(b"<a>\xE9</a>", Rule::NotUtf8, 3));
     assert!(rt; text_of("M\u{E9}r".as_bytes()).is_ok());
-    Ok(())
 }
