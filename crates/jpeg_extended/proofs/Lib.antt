@@ -7,3 +7,4 @@ pub mod Segments
 pub mod Orders
 pub mod OneText
 pub mod NewPortions
+pub mod Fronts

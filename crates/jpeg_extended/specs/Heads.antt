@@ -1,5 +1,6 @@
 -- What the head of a portion says, and its bytes among those that are kept.
-use Rattle.std.specs.Prelude.{ℕ, ◌+◌, ◌≤◌, List, length, take, drop, All}
+use Rattle.std.specs.Prelude.{ℕ, ◌+◌, ◌≤◌, List, [], ◌∷◌, length, take, drop, All, Some, None}
+use Rattle.std.specs.declared.option.Option.{Option}
 use Rattle.jpeg_extended.specs.declared.tiling.Head.{Head}
 use Rattle.jpeg_extended.specs.Tiling.{Extent}
 use Rattle.jpeg_extended.specs.Portions.{Portion}
@@ -16,3 +17,8 @@ portion_in kept h = record { full = h.full; offset = h.offset; bytes = bytes_in 
 -- the bytes of each are kept
 abbrev pub AreKept : List ℕ → List Head → Type 0
 AreKept kept hs = All (λ h. h.at + h.len ≤ length kept) hs
+
+-- what a head that was read says, if one was
+abbrev pub extents_in : Option Head → List Extent
+extents_in None = []
+extents_in (Some h) = extent_of h ∷ []

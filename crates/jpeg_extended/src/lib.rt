@@ -14,7 +14,7 @@ mod tiling;
 mod writing;
 
 pub use joiner::Joiner;
-pub use laws::{joins_again, one_answer};
+pub use laws::{heads_tell, joins_again, one_answer};
 pub use naming::name_of;
 pub use tiling::{ExtStop, Head, tile};
 pub use writing::{portion_count, portion_into, segment_len};
