@@ -66,7 +66,7 @@ fn rule_of_two(alloc: Global, space: &'static str, local: &'static str) -> Optio
 }
 
 /// The rule that a second top breaks, after one that breaks none.
-fn rule_after(alloc: Global, first: &Element<'_>, second: &Element<'_>) -> Option<Rule> {
+fn rule_after<'e>(alloc: Global, first: &'e Element<'_>, second: &'e Element<'_>) -> Option<Rule> {
     let mut seen = NameSet::new(alloc);
     let Ok(None) = broken_top(first, b"".as_slice(), &mut seen) else {
         return None;
