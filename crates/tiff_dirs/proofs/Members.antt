@@ -11,7 +11,9 @@ use Rattle.tiff_dirs.specs.declared.entry.Entry.{Entry}
 use Rattle.tiff_dirs.specs.Numbers.{number, numbers}
 use Rattle.tiff_dirs.specs.Types.{size_of, is_offset}
 use Rattle.tiff_dirs.specs.Directories.{named, named_by}
-use Rattle.tiff_dirs.specs.Tables.{is_table, table_of, tables_in}
+use Rattle.xmp_base.specs.Device.{DeskState}
+use Rattle.tiff_dirs.specs.Tables.{Reads, is_table, table_of, tables_in}
+use Rattle.tiff_dirs.proofs.Loads.{reads_wider}
 use Rattle.tiff_dirs.specs.Walking.{capped}
 use Rattle.tiff_dirs.proofs.Capped.{capped_none}
 
@@ -110,3 +112,9 @@ table_only e h r k = only_by (is_table e) e.value r h k
 pub table_is : (es : List Entry) (e : Entry) → Contains (tables_in es) e.value → (r : FileSpan) → Contains (e.value ∷ []) r → Contains (tables_in es) r
 table_is es e h r (zero, low, is) = subst (λ (x : FileSpan). Contains (tables_in es) x) is h
 table_is es e h r (suc k, low, is) = absurd (omega arith)
+
+-- the value of the first entry of a tag is among the tables
+pub tag_read : (s t : DeskState) (name : List ℕ) (es : List Entry) (tag : ℕ) (e : Entry) → ((x : Entry) → x.tag ≡ tag → is_table x ≡ true) → find (λ x. x.tag == tag) es ≡ Some e
+    → Reads s t name (λ _. e.value ∷ []) → Reads s t name (λ _. tables_in es)
+tag_read s t name es tag e is found a =
+    reads_wider name s t (λ _. e.value ∷ []) (λ _. tables_in es) a (λ files told. table_is es e (table_found (λ x. x.tag == tag) es e (is e (found_tag tag es e found)) found))

@@ -1,5 +1,5 @@
 -- What a walk over a device reads.
-use Rattle.std.proofs.Common.{◌≡◌, ℕ, zero, suc, ◌≤◌, ◌⊎◌, inl, inr, List, [], ◌∷◌, ◌++◌, length, refl, sym, ap, subst, ◌∙◌, arith, Some, Contains, append_assoc}
+use Rattle.std.proofs.Common.{◌≡◌, ℕ, zero, suc, ◌≤◌, ◌⊎◌, inl, inr, List, [], ◌∷◌, ◌++◌, length, refl, sym, ap, subst, ◌∙◌, arith, Some, Contains, append_assoc, ◌+◌, ◌*◌, ◌<◌, get_or, take}
 use Rattle.std.specs.List.{flat_map, slice_get}
 use Rattle.std.proofs.lemmas.List.{append-nil}
 use Rattle.std.proofs.lemmas.List.Elements.{All-append, All-nil, All-weaker, Contains-append_left, Contains-append_right, Contains-append_cases}
@@ -14,7 +14,11 @@ use Rattle.tiff_dirs.specs.Offsets.{all_named, Reaches, Walks}
 use Rattle.tiff_dirs.specs.Tables.{IsAmong, Reads, tables_at, tables_of}
 use Rattle.tiff_dirs.specs.FromDesk.{WalkReads}
 use Rattle.tiff_dirs.proofs.Loads.{reads_trans, reads_wider}
+use Rattle.tiff_dirs.specs.declared.directory.Directory.{Directory}
+use Rattle.tiff_dirs.specs.Walking.{Underway}
+use Rattle.tiff_dirs.proofs.Reaching.{next_named}
 use Rattle.tiff_dirs.proofs.Unique.{front_of, next_of}
+use Rattle.tiff_dirs.proofs.Sizes.{header_least}
 
 pub split_by : {X : Type 0} (x : X) (xs : List X) (y : X) → Contains (x ∷ xs) y → (x ≡ y) ⊎ Contains xs y
 split_by x xs y (zero, low, is) = inl is
@@ -139,3 +143,21 @@ pub so_far_whole : (l : Layout) (file xs : List ℕ) → l ≡ layout_of file �
 so_far_whole l file xs is r offsets w x h =
     let back = sym is in
     front_of l file xs offsets r (subst (λ (n : Layout). Reaches n file offsets) back w.reaches) (subst (λ (n : Layout). all_named n file offsets ≡ offsets) back w.all) x h
+
+-- the first bytes, and then the header's offset
+pub walk_head : (s t u : DeskState) (name : List ℕ) (l : Layout) (n : ℕ) → ReadInside s t name 0 (0 + n) → 0 + n ≤ 8 → ReadInside t u name l.word (l.word + l.word) → l.header ≡ 2 * l.word
+    → Told s.files (λ files. l ≡ layout_of (bytes_of files name)) → WalkReads s u name
+walk_head s t u name l n a few b double is =
+    walk_trans s t u name
+    (walk_header s t name 0 (0 + n) a (λ files told offsets w. let least = header_least (bytes_of files name) in omega (arith, few, least)))
+    (walk_header t u name l.word (l.word + l.word) b (λ files told offsets w. let header = ap (λ (m : Layout). m.header) (is files (sym a.same.files ∙ told)) in omega (arith, header, double)))
+
+-- the next directory, whatever comes of it
+pub walk_next : (s t u : DeskState) (name : List ℕ) (l : Layout) (items : List ℕ) (found : List Directory) (pictures : List FileSpan) → length found < length items
+    → Reads s t name (λ file. tables_of l file (take (length found) items)) → Reads t u name (λ file. tables_at l file (get_or items (length found) 0))
+    → Told s.files (λ files. l ≡ layout_of (bytes_of files name)) → Told s.files (λ files. Underway l (bytes_of files name) items found pictures) → WalkReads s u name
+walk_next s t u name l items found pictures within a b is under =
+    let xs = take (length found) items in
+    let x = get_or items (length found) 0 in
+    walk_reads s u name l (xs ++ x ∷ []) (reads_more s t u name l xs (xs ++ x ∷ []) x a b (λ files told. refl)) is
+    (λ files told. in_whole l (bytes_of files name) xs x (is files told) (under files told).reaches (next_named l (bytes_of files name) items found pictures (under files told) within))

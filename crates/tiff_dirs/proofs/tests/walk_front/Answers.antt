@@ -1,4 +1,3 @@
-use Rattle.std.proofs.Common.{take, arith}
 use Rattle.std.proofs.lemmas.List.{take-take}
 use Rattle.tiff_dirs.proofs.tests.walk_front.Goals as goal
 

@@ -6,7 +6,7 @@ use Rattle.tiff_dirs.specs.Layouts.{layout_of}
 use Rattle.tiff_dirs.specs.FromDesk.{WalkFromAnswer}
 use Rattle.tiff_dirs.proofs.Nearest.{overlapped_answer}
 use Rattle.tiff_dirs.proofs.Sizes.{header_least, layout_part, short_fault}
-use Rattle.tiff_dirs.proofs.Walks.{walk_header, walk_trans}
+use Rattle.tiff_dirs.proofs.Walks.{walk_header, walk_head, walk_trans}
 use Rattle.tiff_dirs.proofs.walk.walk_known.Goals as goal
 
 pub returns-in-Err-clause-calls : goal.returns-in-Err-clause-calls
@@ -45,15 +45,9 @@ returns-in-Err-number_of-clause-calls g c =
     let to = c.fill_from.new.to in
     let least : 4 ≤ length to = search rules in
     let room : 0 + length to ≤ 8 = search rules in
-    let l = c.of-layout.result in
-    let double = c.of-layout.ensures.widths.header in
-    walk_trans (g.D.Desk.state c.args.desk.now) (g.D.Desk.state c.fill_from.new.desk) (g.D.Desk.state c.number_of.new.desk) name
-    (walk_header (g.D.Desk.state c.args.desk.now) (g.D.Desk.state c.fill_from.new.desk) name 0 (0 + length to) c.fill_from.ensures.call.calls
-    (λ files told offsets w. let least = header_least (bytes_of files name) in omega (arith, room, least)))
-    (walk_header (g.D.Desk.state c.fill_from.new.desk) (g.D.Desk.state c.number_of.new.desk) name l.word (l.word + l.word) c.number_of.ensures.calls
-    (λ files told offsets w.
-    let is : l ≡ layout_of (bytes_of files name) = c.of-layout.ensures.is ∙ layout_part to (bytes_of files name) (length to) least (c.in-Ok.ensures.call.bytes files (sym c.fill_from.ensures.call.calls.same.files ∙ told)) in
-    let header = ap (λ (m : Layout). m.header) is in omega (arith, header, double)))
+    walk_head (g.D.Desk.state c.args.desk.now) (g.D.Desk.state c.fill_from.new.desk) (g.D.Desk.state c.number_of.new.desk) name c.of-layout.result (length to) c.fill_from.ensures.call.calls room
+    c.number_of.ensures.calls c.of-layout.ensures.widths.header
+    (λ files told. c.of-layout.ensures.is ∙ layout_part to (bytes_of files name) (length to) least (c.in-Ok.ensures.call.bytes files told))
 
 pub returns-in-Err-find-clause-calls : goal.returns-in-Err-find-clause-calls
 returns-in-Err-find-clause-calls g c =
@@ -61,16 +55,10 @@ returns-in-Err-find-clause-calls g c =
     let to = c.fill_from.new.to in
     let least : 4 ≤ length to = search rules in
     let room : 0 + length to ≤ 8 = search rules in
-    let l = c.of-layout.result in
-    let double = c.of-layout.ensures.widths.header in
     walk_trans (g.D.Desk.state c.args.desk.now) (g.D.Desk.state c.number_of.new.desk) (g.D.Desk.state c.find.new.desk) name
-    (walk_trans (g.D.Desk.state c.args.desk.now) (g.D.Desk.state c.fill_from.new.desk) (g.D.Desk.state c.number_of.new.desk) name
-    (walk_header (g.D.Desk.state c.args.desk.now) (g.D.Desk.state c.fill_from.new.desk) name 0 (0 + length to) c.fill_from.ensures.call.calls
-    (λ files told offsets w. let least = header_least (bytes_of files name) in omega (arith, room, least)))
-    (walk_header (g.D.Desk.state c.fill_from.new.desk) (g.D.Desk.state c.number_of.new.desk) name l.word (l.word + l.word) c.number_of.ensures.calls
-    (λ files told offsets w.
-    let is : l ≡ layout_of (bytes_of files name) = c.of-layout.ensures.is ∙ layout_part to (bytes_of files name) (length to) least (c.in-Ok.ensures.call.bytes files (sym c.fill_from.ensures.call.calls.same.files ∙ told)) in
-    let header = ap (λ (m : Layout). m.header) is in omega (arith, header, double))))
+    (walk_head (g.D.Desk.state c.args.desk.now) (g.D.Desk.state c.fill_from.new.desk) (g.D.Desk.state c.number_of.new.desk) name c.of-layout.result (length to) c.fill_from.ensures.call.calls room
+    c.number_of.ensures.calls c.of-layout.ensures.widths.header
+    (λ files told. c.of-layout.ensures.is ∙ layout_part to (bytes_of files name) (length to) least (c.in-Ok.ensures.call.bytes files told)))
     c.find.ensures.calls
 
 pub returns-in-None-clause-calls : goal.returns-in-None-clause-calls
@@ -79,16 +67,10 @@ returns-in-None-clause-calls g c =
     let to = c.fill_from.new.to in
     let least : 4 ≤ length to = search rules in
     let room : 0 + length to ≤ 8 = search rules in
-    let l = c.of-layout.result in
-    let double = c.of-layout.ensures.widths.header in
     walk_trans (g.D.Desk.state c.args.desk.now) (g.D.Desk.state c.number_of.new.desk) (g.D.Desk.state c.find.new.desk) name
-    (walk_trans (g.D.Desk.state c.args.desk.now) (g.D.Desk.state c.fill_from.new.desk) (g.D.Desk.state c.number_of.new.desk) name
-    (walk_header (g.D.Desk.state c.args.desk.now) (g.D.Desk.state c.fill_from.new.desk) name 0 (0 + length to) c.fill_from.ensures.call.calls
-    (λ files told offsets w. let least = header_least (bytes_of files name) in omega (arith, room, least)))
-    (walk_header (g.D.Desk.state c.fill_from.new.desk) (g.D.Desk.state c.number_of.new.desk) name l.word (l.word + l.word) c.number_of.ensures.calls
-    (λ files told offsets w.
-    let is : l ≡ layout_of (bytes_of files name) = c.of-layout.ensures.is ∙ layout_part to (bytes_of files name) (length to) least (c.in-Ok.ensures.call.bytes files (sym c.fill_from.ensures.call.calls.same.files ∙ told)) in
-    let header = ap (λ (m : Layout). m.header) is in omega (arith, header, double))))
+    (walk_head (g.D.Desk.state c.args.desk.now) (g.D.Desk.state c.fill_from.new.desk) (g.D.Desk.state c.number_of.new.desk) name c.of-layout.result (length to) c.fill_from.ensures.call.calls room
+    c.number_of.ensures.calls c.of-layout.ensures.widths.header
+    (λ files told. c.of-layout.ensures.is ∙ layout_part to (bytes_of files name) (length to) least (c.in-Ok.ensures.call.bytes files told)))
     c.find.ensures.calls
 
 pub returns-in-Some-clause-calls : goal.returns-in-Some-clause-calls
@@ -97,16 +79,10 @@ returns-in-Some-clause-calls g c =
     let to = c.fill_from.new.to in
     let least : 4 ≤ length to = search rules in
     let room : 0 + length to ≤ 8 = search rules in
-    let l = c.of-layout.result in
-    let double = c.of-layout.ensures.widths.header in
     walk_trans (g.D.Desk.state c.args.desk.now) (g.D.Desk.state c.number_of.new.desk) (g.D.Desk.state c.find.new.desk) name
-    (walk_trans (g.D.Desk.state c.args.desk.now) (g.D.Desk.state c.fill_from.new.desk) (g.D.Desk.state c.number_of.new.desk) name
-    (walk_header (g.D.Desk.state c.args.desk.now) (g.D.Desk.state c.fill_from.new.desk) name 0 (0 + length to) c.fill_from.ensures.call.calls
-    (λ files told offsets w. let least = header_least (bytes_of files name) in omega (arith, room, least)))
-    (walk_header (g.D.Desk.state c.fill_from.new.desk) (g.D.Desk.state c.number_of.new.desk) name l.word (l.word + l.word) c.number_of.ensures.calls
-    (λ files told offsets w.
-    let is : l ≡ layout_of (bytes_of files name) = c.of-layout.ensures.is ∙ layout_part to (bytes_of files name) (length to) least (c.in-Ok.ensures.call.bytes files (sym c.fill_from.ensures.call.calls.same.files ∙ told)) in
-    let header = ap (λ (m : Layout). m.header) is in omega (arith, header, double))))
+    (walk_head (g.D.Desk.state c.args.desk.now) (g.D.Desk.state c.fill_from.new.desk) (g.D.Desk.state c.number_of.new.desk) name c.of-layout.result (length to) c.fill_from.ensures.call.calls room
+    c.number_of.ensures.calls c.of-layout.ensures.widths.header
+    (λ files told. c.of-layout.ensures.is ∙ layout_part to (bytes_of files name) (length to) least (c.in-Ok.ensures.call.bytes files told)))
     c.find.ensures.calls
 
 pub returns-in-Some-clause-answer : goal.returns-in-Some-clause-answer
