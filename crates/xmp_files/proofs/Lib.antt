@@ -2,3 +2,4 @@ pub mod Loads
 pub mod OneStep
 pub mod Opens
 pub mod NeverMissing
+pub mod Placing

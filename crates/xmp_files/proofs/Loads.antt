@@ -1,17 +1,15 @@
 -- A load: the length, then the kind, then the payload.
-use Rattle.std.proofs.Common.{◌≡◌, ◌≢◌, ◌⊎◌, ℕ, ◌+◌, ◌<◌, ◌≤◌, List, ◌++◌, length, take, drop, min, All, refl, sym, ap, ◌∙◌, subst, arith, IsTrue, [], Ok, Err, Some, None, inl, inr, append_assoc}
+use Rattle.std.proofs.Common.{◌≡◌, ◌≢◌, ℕ, ◌<◌, ◌≤◌, List, ◌++◌, length, take, min, refl, sym, ap, ◌∙◌, subst, arith, IsTrue, [], Ok, Err, Some, None, append_assoc}
 use Rattle.std.specs.declared.option.Option.{Option}
 use Rattle.std.specs.declared.result.Result.{Result}
 use Rattle.std.specs.FinMap.{get}
 use Rattle.std.specs.Option.{unwrap_or, ok_or}
 use Rattle.std.specs.Prelude.{IfOk, IsOk}
 use Rattle.std.proofs.lemmas.Bool.{cond-true, cond-false, lt-ltb, le-ltb}
-use Rattle.std.proofs.lemmas.List.{take-take, take_min, take_all, append-nil}
+use Rattle.std.proofs.lemmas.List.{take-take, take_min, append-nil}
 use Rattle.std.proofs.lemmas.List.Elements.{All-append, All-nil, All-weaker}
-use Rattle.xmp_base.specs.Device.{DeskState, Lens, Moved, SizeCall, SameFiles, NotFewer, Told, Rose, OthersKeep, bytes_of, is_known, len_of, size_of}
-use Rattle.xmp_base.specs.Whole.{ReadSome}
-use Rattle.xmp_base.specs.Windows.{FillFrom, IsInside, MovesInside, ReadInside, WindowCall}
-use Rattle.xmp_base.specs.declared.windows.WindowStop.TheVariants as window_stop
+use Rattle.xmp_base.specs.Device.{DeskState, Lens, Moved, SizeCall, Told, OthersKeep, bytes_of, is_known, len_of, size_of}
+use Rattle.xmp_base.specs.Windows.{FillFrom, IsInside, MovesInside, ReadInside}
 use Rattle.xmp_base.proofs.Calls.{same_trans, counts_trans, some_size, some_inside, some_trans, rose_after, now_known}
 use Rattle.xmp_base.proofs.Inside.{inside_none, inside_trans, inside_wider}
 use Rattle.xmp_base.proofs.Names.{get-insert_other}
@@ -19,17 +17,17 @@ use Rattle.xmp_values.specs.declared.faults.Fault.{Fault}
 use Rattle.xmp_values.specs.declared.rules.Rule.{Rule}
 use Rattle.xmp_values.specs.declared.rules.Rule.TheVariants.{FileLimit, NotKnown, NotBuilt}
 use Rattle.xmp_values.specs.declared.stops.FileStop.{FileStop}
-use Rattle.xmp_values.specs.declared.stops.FileStop.TheVariants.{Fault as Refused, Device, Memory}
+use Rattle.xmp_values.specs.declared.stops.FileStop.TheVariants.{Fault as Refused}
 use Rattle.xmp_base.specs.declared.device.Failed.{Failed}
 use Rattle.xmp_files.specs.declared.kinds.Kind.{Kind}
 use Rattle.xmp_files.specs.declared.kinds.Kind.TheVariants.{Sidecar}
 use Rattle.xmp_files.specs.declared.held.Need.{Need}
-use Rattle.xmp_files.specs.Faults.{file_limit, over_limit, packet_limit, over_packet, not_known, not_built}
+use Rattle.xmp_files.specs.Faults.{file_limit, over_limit, not_known, not_built}
 use Rattle.xmp_files.specs.Kinds.{kind_of, kind_of_head}
 use Rattle.xmp_files.specs.Stages.{Followed}
-use Rattle.xmp_files.specs.Keeping.{Kept, sidecar}
-use Rattle.xmp_files.specs.Loading.{known, limited, kind_of_file, IsContained, IsKept}
-use Rattle.xmp_files.specs.Sparing.{IsPicture, IsOverlong, Spares, HasContainer, Spared}
+use Rattle.xmp_files.specs.Keeping.{Kept}
+use Rattle.xmp_files.specs.Loading.{known, kind_of_file, IsContained, IsKept}
+use Rattle.xmp_files.specs.Sparing.{Spares, HasContainer, Spared}
 use Rattle.xmp_files.specs.Loads.{KindCall, SizedCall, LoadCall, LoadGives, Refusal, IsLoadRefusal, IsOfSize, read_before}
 
 -- the first bytes of a file, or all of a shorter one, tell its kind

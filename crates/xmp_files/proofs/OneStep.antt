@@ -1,5 +1,5 @@
 -- What is kept of a file, and what it means, have at most one step each.
-use Rattle.std.proofs.Common.{◌≡◌, ◌∙◌, ℕ, List, [], Ok, Err, Some, None, inl, inr, sym, ap, subst, refl}
+use Rattle.std.proofs.Common.{◌≡◌, ◌∙◌, ℕ, List, [], Ok, Err, Some, None, inl, inr, sym, ap, subst}
 use Rattle.std.specs.declared.option.Option.{Option}
 use Rattle.std.specs.declared.result.Result.{Result}
 use Rattle.std.specs.Option.{unwrap_or}

@@ -1,15 +1,12 @@
 -- What a file means, from what the readers of its payload returned.
-use Rattle.std.proofs.Common.{◌≡◌, ◌∙◌, ℕ, false, List, Ok, Err, Some, None, sym, ap, subst, refl}
+use Rattle.std.proofs.Common.{◌≡◌, ℕ, false, List, Ok, Err, Some, None, subst, refl}
 use Rattle.std.specs.declared.option.Option.{Option}
 use Rattle.std.specs.declared.result.Result.{Result}
 use Rattle.std.specs.Option.{option_map}
-use Rattle.xmp_values.specs.declared.faults.Fault.{Fault}
 use Rattle.xmp_values.specs.declared.faults.Part.TheVariants.{Main}
 use Rattle.xmp_values.specs.declared.rules.Rule.{Rule}
 use Rattle.xmp_values.specs.declared.stops.PlaceStop.{PlaceStop}
 use Rattle.xmp_values.specs.declared.stops.PlaceStop.TheVariants as places
-use Rattle.xmp_values.specs.declared.stops.FaultStop.{FaultStop}
-use Rattle.xmp_values.specs.declared.stops.FaultStop.TheVariants as faults
 use Rattle.xmp_values.specs.Stops.{stop_in}
 use Rattle.xmp_rdf.specs.declared.meanings.Meaning.{Meaning}
 use Rattle.xmp_packets.specs.Packets.{packet_text}

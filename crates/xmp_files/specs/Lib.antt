@@ -6,5 +6,7 @@ pub mod Loading
 pub mod Sparing
 pub mod Opening
 pub mod Planning
+pub mod Plans
+pub mod Planneds
 pub mod Loads
 pub mod Openings

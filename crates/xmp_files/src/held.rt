@@ -3,6 +3,7 @@ ghost use Rattle.std.specs.Prelude.{◌≡◌};
 ghost use Rattle.std.specs.Option.{option_copied, option_map};
 ghost use Rattle.xmp_packets.specs.Packets.{packet_text};
 ghost use Rattle.xmp_files.specs.Keeping.{sidecar};
+ghost use Rattle.xmp_files.specs.Plans.{place_of, room_of};
 
 use std::marker::Model;
 use xmp_packets::Packet;
@@ -49,6 +50,28 @@ impl Held {
         ensures { option_copied result ≡ option_map (λ piece. piece.bytes) self.now.payload }
     {
         Some(self.payload.as_slice())
+    }
+
+    /// Where the payload of the main packet stands, 0 without one.
+    pub(crate) fn payload_place(&self) -> u64
+        ensures { result ≡ place_of self.now.payload }
+    {
+        let _payload = &self.payload;
+        0
+    }
+
+    /// The length of the payload of the main packet, 0 without one.
+    pub(crate) fn payload_len(&self) -> usize
+        ensures { result ≡ room_of self.now.payload }
+    {
+        self.payload.len()
+    }
+
+    /// The length of the file.
+    pub fn size(&self) -> u64
+        ensures { result ≡ self.now.size }
+    {
+        self.payload.len() as u64
     }
 
     /// The main packet's text: the payload without the zero bytes at its end.

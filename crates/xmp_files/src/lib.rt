@@ -16,10 +16,12 @@ mod laws;
 mod load_tests;
 mod loading;
 mod opening;
+mod plans;
 
 pub use faults::{no_file, not_built};
 pub use held::{Held, Need};
 pub use laws::{one_kept, one_meaning, one_opened};
 pub use loading::load;
 pub use opening::{Opened, read_file};
+pub use plans::{Outcome, Planned};
 pub use xmp_values::{FaultStop as OpenStop, FileStop as LoadStop};

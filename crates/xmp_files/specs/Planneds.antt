@@ -1,0 +1,37 @@
+-- How a plan is kept, and what `plan` returned beside the definition.
+use Rattle.std.specs.Prelude.{◌≡◌, ℕ, Bool, [], ◌∷◌, Ok, Err}
+use Rattle.std.specs.declared.result.Result.{Result}
+use Rattle.xmp_values.specs.declared.stops.FaultStop.{FaultStop}
+use Rattle.xmp_values.specs.Stops.{fault_of, Answers}
+use Rattle.xmp_files.specs.declared.plans.Exchange.{Exchange}
+use Rattle.xmp_files.specs.declared.plans.Exchange.TheVariants.{Nothing, Inside, Whole}
+use Rattle.xmp_files.specs.declared.plans.Outcome.{Outcome}
+use Rattle.xmp_files.specs.declared.plans.Outcome.TheVariants as outcomes
+use Rattle.xmp_files.specs.Keeping.{Kept}
+use Rattle.xmp_files.specs.Planning.{Edited, Plan, Same, InPlace, Relocated}
+use Rattle.xmp_files.specs.Plans.{IsPlanned, IsMoved}
+
+abbrev pub plan_of : Exchange → Plan
+plan_of Nothing = Same
+plan_of (Inside at bytes) = InPlace (record { at = at; bytes = bytes } ∷ [])
+plan_of (Whole bytes) = Relocated bytes
+
+abbrev pub outcome_of : Plan → Outcome
+outcome_of Same = outcomes.Same
+outcome_of (InPlace pieces) = outcomes.InPlace
+outcome_of (Relocated file) = outcomes.Relocated
+
+-- a plan, and the length of the old file
+pub record PlannedFile : Type 0 where
+  pub plan : Plan
+  pub size : ℕ
+
+-- the answer is a step of the file and the edit; want of memory is free
+abbrev pub PlanAnswer : Kept → Bool → Bool → Edited → Result PlannedFile FaultStop → Type 0
+PlanAnswer kept joined patch e result =
+    Answers fault_of result (λ planned. IsPlanned kept joined patch e (Ok planned.plan) × (planned.size ≡ kept.size)) (λ fault. IsPlanned kept joined patch e (Err fault))
+
+-- what a changed tree makes of the bytes is a step
+abbrev pub MoveAnswer : Kept → Bool → Bool → Edited → Result Exchange FaultStop → Type 0
+MoveAnswer kept joined patch e result =
+    Answers fault_of result (λ exchange. IsMoved kept.payload kept.container joined patch e (Ok (plan_of exchange))) (λ fault. IsMoved kept.payload kept.container joined patch e (Err fault))
