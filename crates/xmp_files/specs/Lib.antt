@@ -8,5 +8,6 @@ pub mod Opening
 pub mod Planning
 pub mod Plans
 pub mod Planneds
+pub mod Emitting
 pub mod Loads
 pub mod Openings

@@ -1,5 +1,5 @@
 -- How a plan is kept, and what `plan` returned beside the definition.
-use Rattle.std.specs.Prelude.{◌≡◌, ℕ, Bool, [], ◌∷◌, Ok, Err}
+use Rattle.std.specs.Prelude.{◌≡◌, ℕ, Bool, List, [], ◌∷◌, Option, None, Some, Ok, Err}
 use Rattle.std.specs.declared.result.Result.{Result}
 use Rattle.xmp_values.specs.declared.stops.FaultStop.{FaultStop}
 use Rattle.xmp_values.specs.Stops.{fault_of, Answers}
@@ -7,7 +7,7 @@ use Rattle.xmp_files.specs.declared.plans.Exchange.{Exchange}
 use Rattle.xmp_files.specs.declared.plans.Exchange.TheVariants.{Nothing, Inside, Whole}
 use Rattle.xmp_files.specs.declared.plans.Outcome.{Outcome}
 use Rattle.xmp_files.specs.declared.plans.Outcome.TheVariants as outcomes
-use Rattle.xmp_files.specs.Keeping.{Kept}
+use Rattle.xmp_files.specs.Keeping.{Piece, Kept}
 use Rattle.xmp_files.specs.Planning.{Edited, Plan, Same, InPlace, Relocated}
 use Rattle.xmp_files.specs.Plans.{IsPlanned, IsMoved}
 
@@ -35,3 +35,15 @@ PlanAnswer kept joined patch e result =
 abbrev pub MoveAnswer : Kept → Bool → Bool → Edited → Result Exchange FaultStop → Type 0
 MoveAnswer kept joined patch e result =
     Answers fault_of result (λ exchange. IsMoved kept.payload kept.container joined patch e (Ok (plan_of exchange))) (λ fault. IsMoved kept.payload kept.container joined patch e (Err fault))
+
+-- the bytes of a payload, none without one
+abbrev pub bytes_in : Option Piece → List ℕ
+bytes_in None = []
+bytes_in (Some payload) = payload.bytes
+
+-- the packet behind a plan, of which there is at most one piece
+abbrev pub new_packet : Option Piece → Plan → List ℕ
+new_packet payload Same = bytes_in payload
+new_packet payload (InPlace []) = bytes_in payload
+new_packet payload (InPlace (p ∷ ps)) = p.bytes
+new_packet payload (Relocated file) = file

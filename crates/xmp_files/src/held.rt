@@ -4,6 +4,7 @@ ghost use Rattle.std.specs.Option.{option_copied, option_map};
 ghost use Rattle.xmp_packets.specs.Packets.{packet_text};
 ghost use Rattle.xmp_files.specs.Keeping.{sidecar};
 ghost use Rattle.xmp_files.specs.Plans.{place_of, room_of};
+ghost use Rattle.xmp_files.specs.Planneds.{bytes_in};
 
 use std::marker::Model;
 use xmp_packets::Packet;
@@ -72,6 +73,14 @@ impl Held {
         ensures { result ≡ self.now.size }
     {
         self.payload.len() as u64
+    }
+
+    /// The bytes of the packet, which are the whole file.
+    pub(crate) fn whole(&self) -> &[u8]
+        ensures bytes { result.now ≡ bytes_in self.now.payload }
+        ensures sidecar { self.now ≡ sidecar self.now.need result.now }
+    {
+        self.payload.as_slice()
     }
 
     /// The main packet's text: the payload without the zero bytes at its end.

@@ -6,6 +6,7 @@
 //! `xmp_packets`, the documents of `xmp_xml` and the meanings of `xmp_rdf`.
 #![tactic(auto)]
 
+mod emitting;
 mod faults;
 mod held;
 #[cfg(test)]
@@ -18,10 +19,11 @@ mod loading;
 mod opening;
 mod plans;
 
+pub use emitting::emit;
 pub use faults::{no_file, not_built};
 pub use held::{Held, Need};
 pub use laws::{one_kept, one_meaning, one_opened};
 pub use loading::load;
 pub use opening::{Opened, read_file};
-pub use plans::{Outcome, Planned};
+pub use plans::{Outcome, Planned, plan};
 pub use xmp_values::{FaultStop as OpenStop, FileStop as LoadStop};

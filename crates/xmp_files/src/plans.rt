@@ -4,7 +4,8 @@ ghost use Rattle.xmp_tree.specs.Parts.{Parts};
 ghost use Rattle.xmp_write.specs.Prefixes.{prefixes};
 ghost use Rattle.xmp_write.specs.WrittenPackets.{least_len, packet};
 ghost use Rattle.xmp_files.specs.Plans.{room_of, put_over, told, fits, planned_len, needs_relocation};
-ghost use Rattle.xmp_files.specs.Planneds.{plan_of, outcome_of, MoveAnswer, PlanAnswer};
+ghost use Rattle.xmp_files.specs.Planneds.{plan_of, outcome_of, MoveAnswer, PlanAnswer, bytes_in, new_packet};
+ghost use Rattle.xmp_files.specs.Keeping.{sidecar};
 
 use crate::faults::{PACKET_LIMIT, over_packet};
 use crate::held::Held;
@@ -78,6 +79,18 @@ impl Planned {
         match &self.exchange {
             Exchange::Nothing | Exchange::Inside(..) => self.old_len,
             Exchange::Whole(file) => file.len() as u64,
+        }
+    }
+
+    /// The bytes of the new file, which is nothing but its packet.
+    pub(crate) fn bytes<'a>(&'a self, held: &'a Held) -> &'a [u8]
+        ensures bytes { result.now ≡ new_packet held.now.payload self.now.plan }
+        ensures sidecar { held.now ≡ sidecar held.now.need (bytes_in held.now.payload) }
+    {
+        let old = held.whole();
+        match &self.exchange {
+            Exchange::Nothing => old,
+            Exchange::Inside(_, bytes) | Exchange::Whole(bytes) => bytes.as_slice(),
         }
     }
 }
