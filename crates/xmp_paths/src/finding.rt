@@ -18,7 +18,7 @@ fn fields_of<'t, 'p>(value: &'t Value<'p>) -> &'t [Member<'p>]
 }
 
 /// The items of an array; none of another value.
-fn items_of<'t, 'p>(value: &'t Value<'p>) -> &'t [Value<'p>]
+pub fn items_of<'t, 'p>(value: &'t Value<'p>) -> &'t [Value<'p>]
     ensures { result.now ≡ items_of value.now }
 {
     match &value.shape {
@@ -28,7 +28,7 @@ fn items_of<'t, 'p>(value: &'t Value<'p>) -> &'t [Value<'p>]
 }
 
 /// The value to which a step leads.
-fn child<'t, 'p>(step: &Step, value: &'t Value<'p>) -> Option<&'t Value<'p>>
+pub fn child<'t, 'p>(step: &Step, value: &'t Value<'p>) -> Option<&'t Value<'p>>
     ensures { option_copied result ≡ child step.now value.now }
 {
     match step {

@@ -16,7 +16,7 @@ mod step;
 #[cfg(test)]
 mod tests;
 
-pub use finding::find;
+pub use finding::{child, find, items_of};
 pub use namespaces::Namespaces;
 pub use numbers::{is_lang_tag, place_of_number};
 pub use path::Path;

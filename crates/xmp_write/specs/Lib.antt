@@ -6,6 +6,7 @@ pub mod Text
 pub mod WrittenPackets
 pub mod Splits
 pub mod Lines
+pub mod ValueLines
 pub mod Placing
 pub mod Giving
 pub mod Writing

@@ -22,7 +22,7 @@ mod writing;
 
 pub use forms::Form;
 pub use laws::{prefixes_are_told_apart, the_least_free_number};
-pub use listing::lines;
+pub use listing::{lines, value_lines};
 pub use prefixes::Prefixes;
 pub use splits::{Split, SplitStop};
 pub use writing::{measure, packet_into, pad_into, write_into};

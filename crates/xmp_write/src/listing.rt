@@ -1,16 +1,19 @@
 //! The lines that show a tree: `PATH KIND REST`, each ended by LF.
-ghost use Rattle.std.specs.Prelude.{◌≡◌, ◌++◌, ◌∷◌, [], codes, decimal, unwrap_or, IfOk, OnOk};
+ghost use Rattle.std.specs.Prelude.{◌≡◌, ◌++◌, ◌∷◌, [], codes, decimal, unwrap_or, IfOk, IsSome, OnOk};
 ghost use Rattle.std.specs.List.{flat_map};
 ghost use Rattle.std.specs.Option.{option_copied};
 ghost use Rattle.xmp_tree.specs.declared.nested.Shape.{out-Shape};
 ghost use Rattle.xmp_write.specs.Writing.{Adds, items_from};
 ghost use Rattle.xmp_write.specs.Prefixes.{spelled};
+ghost use Rattle.xmp_paths.specs.Places.{child};
+ghost use Rattle.xmp_write.specs.ValueLines.{step_path, lines_behind, lines_at};
 ghost use Rattle.xmp_write.specs.Lines.{shown, shown_byte, shape_word, kind_word, value_lines, shape_lines, member_lines, item_path, lines};
 
 use crate::prefixes::Prefixes;
 use itoa::Buffer;
 use std::alloc::Global;
-use xmp_tree::{Kind, Member, Shape, Tree, Value};
+use xmp_paths::{Path, Step, child, items_of};
+use xmp_tree::{Kind, Member, Shape, Tree, Value, tag_place, value_named};
 use xmp_values::{Bytes, Memory, Name};
 
 /// The lines written so far, and the path of what is written next. It is one buffer, cut back on
@@ -235,5 +238,78 @@ pub fn lines(alloc: Global, tree: &Tree<'_>, prefixes: &Prefixes<'_>) -> Result<
     push_shown(&mut writer.text, tree.about.bytes())?;
     writer.text.extend_from_slice(b"\n")?;
     push_members(&mut writer, prefixes, b"", tree.props.as_slice())?;
+    Ok(Bytes::from_vec(writer.text))
+}
+
+impl Writer {
+    /// Goes on to a step behind the path, from a value in which it leads to one.
+    fn step(
+        &mut self,
+        prefixes: &Prefixes<'_>,
+        step: &Step,
+        value: &Value<'_>,
+    ) -> Result<(), Memory>
+        requires { IsSome (child step.now value.now) }
+        ensures text { self.new.text.items ≡ self.old.text.items }
+        ensures path { OnOk result (self.new.path.items ≡ step_path prefixes.now self.old.path.items step.now value.now) }
+    {
+        match step {
+            Step::Field(name) => {
+                self.path.extend_from_slice(b"/")?;
+                self.enter(prefixes, name)
+            }
+            Step::Qualifier(name) => {
+                self.path.extend_from_slice(b"/?")?;
+                self.enter(prefixes, name)
+            }
+            Step::Item(at) => self.enter_item((*at).min(items_of(value).len()) + 1),
+            Step::Tag(tag) => {
+                let at = tag_place(items_of(value), tag.bytes()).unwrap_or(0);
+                self.enter_item(at + 1)
+            }
+        }
+    }
+}
+
+/// Puts the lines of what steps lead to from a value at the path.
+fn push_behind(
+    writer: &mut Writer,
+    prefixes: &Prefixes<'_>,
+    steps: &[Step],
+    value: &Value<'_>,
+) -> Result<(), Memory>
+    ensures { OnOk result (writer.new.text.items ≡ writer.old.text.items ++ lines_behind prefixes.now writer.old.path.items steps.now value.now) }
+{
+    match steps {
+        [] => push_value(writer, prefixes, value),
+        [step, rest @ ..] => match child(step, value) {
+            Some(held) => {
+                writer.step(prefixes, step, value)?;
+                push_behind(writer, prefixes, rest, held)
+            }
+            None => Ok(()),
+        },
+    }
+}
+
+/// The lines of what stands at a path of a tree, its own line first; none where nothing stands
+/// there. A tag is written as the number of its item. With the prefixes of the tree and of the form
+/// of every property without a note each name has its prefix.
+pub fn value_lines(
+    alloc: Global,
+    tree: &Tree<'_>,
+    at: &Path,
+    prefixes: &Prefixes<'_>,
+) -> Result<Bytes, Memory>
+    ensures { IfOk result (λ bytes. bytes ≡ lines_at prefixes.now tree.now at.now) }
+{
+    let mut writer = Writer {
+        text: Vec::new(alloc),
+        path: Vec::new(alloc),
+    };
+    if let Some(value) = value_named(tree.props.as_slice(), at.name()) {
+        writer.enter(prefixes, at.name())?;
+        push_behind(&mut writer, prefixes, at.steps(), value)?;
+    }
     Ok(Bytes::from_vec(writer.text))
 }
