@@ -5,7 +5,6 @@ pub mod GivingSteps
 pub mod PlaceMaps
 pub mod LineLevels
 pub mod WritingSteps
-pub mod ValidHints
 pub mod FreeNumbers
 pub mod ShownRuns
 pub mod Worked

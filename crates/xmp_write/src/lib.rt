@@ -13,10 +13,10 @@ mod placing;
 mod prefixes;
 mod splits;
 #[cfg(test)]
+mod text_tests;
+#[cfg(test)]
 mod tree_tests;
 mod uses;
-#[cfg(test)]
-mod valid_hints;
 mod values;
 mod writing;
 
