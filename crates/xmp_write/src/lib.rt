@@ -13,8 +13,6 @@ mod placing;
 mod prefixes;
 mod splits;
 #[cfg(test)]
-mod text_tests;
-#[cfg(test)]
 mod tree_tests;
 mod uses;
 mod values;
