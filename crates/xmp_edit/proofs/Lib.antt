@@ -1,5 +1,4 @@
 pub mod NameTests
-pub mod TestHints
 pub mod Refills
 pub mod Members
 pub mod Items
