@@ -1,8 +1,9 @@
-//! The canonical text of property trees, packets, and the lines that show a tree.
+//! The canonical text of property trees, packets, splits, and the lines that show a tree.
 //!
 //! It promises the text of a tree by its definition, byte for byte: the prefixes of the namespaces
-//! that are written, and the lines of the command `tree`. It stands on the trees of `xmp_tree`.
-//! XMP's RDF/XML is ISO 16684-1, clause 7.
+//! that are written, the text and its packet, the largest front of a tree that is too long, and the
+//! lines of the command `tree`. It stands on the trees of `xmp_tree`, the paths of `xmp_paths` and
+//! the runs of `xmp_lanes`. XMP's RDF/XML is ISO 16684-1, clause 7.
 #![tactic(auto)]
 
 mod forms;
@@ -12,6 +13,8 @@ mod listing;
 mod placing;
 mod prefixes;
 mod splits;
+#[cfg(test)]
+mod text_tests;
 #[cfg(test)]
 mod tree_tests;
 mod uses;
