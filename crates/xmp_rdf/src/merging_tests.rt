@@ -25,7 +25,7 @@ fn property(alloc: Global, local: &'static str) -> Member<'static> {
 
 fn hints_in(alloc: Global, text: &'static str) -> Option<Hints> {
     let doc = read(alloc, text.as_bytes()).ok()?;
-    doc.declared().again(alloc).ok()
+    doc.declared().try_clone(alloc).ok()
 }
 
 /// A meaning of properties, of which the first has this place, and each other the next.
@@ -44,9 +44,14 @@ fn meaning(
         at = at.wrapping_add(1);
     }
     let tree = Tree::checked(alloc, Text::raw(b""), props).ok()??;
+    let hints = hints_in(alloc, text)?;
+    // A meaning has as many places as properties.
+    if places.len() != tree.props.len() {
+        return None;
+    }
     Some(Meaning {
         tree,
-        hints: hints_in(alloc, text)?,
+        hints,
         note: None,
         places,
     })
@@ -113,7 +118,7 @@ fn is_owned(alloc: Global) -> bool {
 }
 
 #[test]
-fn an_extended_text_stands_behind_the_packet(rt: HostRuntime) -> Result<(), Fail> {
+fn an_extended_text_stands_after_the_packet(rt: HostRuntime) -> Result<(), Fail> {
     assert!(rt; is_merged(rt.alloc()));
     assert!(rt; is_owned(rt.alloc()));
     Ok(())
