@@ -1,5 +1,5 @@
 -- Which refusals a command that shows a view has.
-use Rattle.std.proofs.Common.{◌≡◌, ℕ, ◌≤◌, List, length, arith, sym, refl, Ok, Err, Some, None, Bool, true, false, subst, inl, inr, if◌then◌else◌}
+use Rattle.std.proofs.Common.{◌≡◌, ℕ, ◌≤◌, List, [], length, arith, sym, refl, Ok, Err, Some, None, Bool, true, false, subst, inl, inr, if◌then◌else◌}
 use Rattle.std.proofs.lemmas.List.{length-take}
 use Rattle.std.specs.declared.option.Option.{Option}
 use Rattle.std.specs.declared.result.Result.{Result}
@@ -7,14 +7,16 @@ use Rattle.xmp_values.specs.declared.faults.Fault.{Fault}
 use Rattle.xmp_values.specs.declared.faults.Part.TheVariants.{Main}
 use Rattle.xmp_values.specs.declared.hints.Hint.{Hint}
 use Rattle.xmp_values.specs.declared.rules.Rule.{Rule}
-use Rattle.xmp_values.specs.declared.rules.Rule.TheVariants.{NoFile, Reserved}
-use Rattle.xmp_values.specs.declared.text.Name.{Name}
-use Rattle.xmp_values.specs.Names.{named}
+use Rattle.xmp_values.specs.declared.rules.Rule.TheVariants.{NoFile, Reserved, EditDeep}
 use Rattle.xmp_tree.specs.declared.nested.Member.{Member}
 use Rattle.xmp_tree.specs.declared.nested.Value.{Value, out-Value}
 use Rattle.xmp_tree.specs.declared.nested.Shape.{Shape, Shape-F, out-Shape}
 use Rattle.xmp_tree.specs.declared.nested.Shape.TheOpen as layer
-use Rattle.xmp_edit.specs.Paths.{one_name, name_in, name_by, space_of, split_name, is_reserved, at}
+use Rattle.xmp_paths.specs.declared.spelling.Spelling.{Spelling}
+use Rattle.xmp_paths.specs.Parts.{PathParts, Bindings}
+use Rattle.xmp_paths.specs.Grammar.{spelled}
+use Rattle.xmp_paths.specs.Paths.{path_of, path_named, path_found, unreserved, not_deep, is_reserved, is_deep}
+use Rattle.xmp_paths.specs.Places.{at}
 use Rattle.xmp_rdf.specs.declared.meanings.Meaning.{Meaning}
 use Rattle.xmp_packets.specs.Packets.{packet_text}
 use Rattle.xmp_base.specs.Device.{DeskState, len_of}
@@ -48,36 +50,40 @@ abbrev Stops : {A : Type 0} → Result A Fault → Type 0
 Stops (Ok x) = Unit {0}
 Stops (Err fault) = IsPathRefusal fault
 
-allowed_stops : (reserved : Bool) (name : Name) → Stops (path_step (if reserved then Err Reserved else Ok name))
-allowed_stops true name = inr (inl refl)
-allowed_stops false name = tt
+deep_stops : (deep : Bool) (path : PathParts) → Stops (path_step (if deep then Err EditDeep else Ok path))
+deep_stops true path = inr (inr (inr (inl refl)))
+deep_stops false path = tt
 
-name_in_stops : (local : List ℕ) (space : Option (List ℕ)) → Stops (path_step (name_in local space))
-name_in_stops local None = inl refl
-name_in_stops local (Some space) = allowed_stops (is_reserved (named space local)) (named space local)
+allowed_stops : (reserved : Bool) (path : PathParts) → Stops (path_step (not_deep (if reserved then Err Reserved else Ok path)))
+allowed_stops true path = inr (inr (inl refl))
+allowed_stops false path = deep_stops (is_deep 0 path) path
 
-name_by_stops : (hints : List Hint) (parts : Option (List ℕ × List ℕ)) → Stops (path_step (name_by hints parts))
-name_by_stops hints None = inr (inr (inr refl))
-name_by_stops hints (Some parts) = name_in_stops parts.1 (space_of hints parts.0)
+found_stops : (found : Option PathParts) → Stops (path_step (not_deep (unreserved found)))
+found_stops None = inr (inl refl)
+found_stops (Some path) = allowed_stops (is_reserved path) path
 
-shape_stops : (shape : Shape-F Shape Member Value) → Stops (shape_text shape)
-shape_stops (layer.Simple text) = tt
-shape_stops (layer.Uri text) = tt
-shape_stops (layer.Struct fields) = inr (inr (inr refl))
-shape_stops (layer.Array kind items) = inr (inr (inr refl))
+named_stops : (b : Bindings) (spelling : Option Spelling) → Stops (path_step (not_deep (path_named b spelling)))
+named_stops b None = inl refl
+named_stops b (Some s) = found_stops (path_found b s)
 
-value_stops : (value : Option Value) → Stops (value_text value)
-value_stops None = inr (inr (inl refl))
-value_stops (Some value) = shape_stops (out-Shape (out-Value value).shape)
+shape_stops : (m : Meaning) (place : PathParts) (shape : Shape-F Shape Member Value) → Stops (shape_text m place shape)
+shape_stops m place (layer.Simple text) = tt
+shape_stops m place (layer.Uri text) = tt
+shape_stops m place (layer.Struct fields) = tt
+shape_stops m place (layer.Array kind items) = tt
 
-followed_stops : (name : Result Name Fault) (next : Name → Result (List ℕ) Fault) → Stops name → ((n : Name) → Stops (next n)) → Stops (followed name next)
-followed_stops (Ok name) next h later = later name
+value_stops : (m : Meaning) (place : PathParts) (value : Option Value) → Stops (value_text m place value)
+value_stops m place None = inr (inr (inr (inr refl)))
+value_stops m place (Some value) = shape_stops m place (out-Shape (out-Value value).shape)
+
+followed_stops : (path : Result PathParts Fault) (next : PathParts → Result (List ℕ) Fault) → Stops path → ((p : PathParts) → Stops (next p)) → Stops (followed path next)
+followed_stops (Ok path) next h later = later path
 followed_stops (Err fault) next h later = h
 
 get_stops : (path : List ℕ) (m : Meaning) → Stops (get_text path m)
 unfolding get_text
-get_stops path m = followed_stops (path_step (one_name m.hints path)) (λ name. value_text (at m.tree name))
-    (name_by_stops m.hints (split_name path)) (λ name. value_stops (at m.tree name))
+get_stops path m = followed_stops (path_step (path_of m.hints path)) (λ place. value_text m place (at m.tree place))
+    (named_stops (record { lines = []; hints = m.hints }) (spelled path)) (λ place. value_stops m place (at m.tree place))
 
 stopped : (step : Result (List ℕ) Fault) (fault : Fault) → Stops step → step ≡ Err fault → IsPathRefusal fault
 stopped (Ok text) fault h e = absurd (let bad : Ok text ≡ Err fault = e in cc)
@@ -95,7 +101,8 @@ view_refuses file (views.Value path) t m fault e = let is = stopped (get_text pa
     path_there f (inl e) rule = cc
     path_there f (inr (inl e)) rule = cc
     path_there f (inr (inr (inl e))) rule = cc
-    path_there f (inr (inr (inr e))) rule = cc
+    path_there f (inr (inr (inr (inl e)))) rule = cc
+    path_there f (inr (inr (inr (inr e)))) rule = cc
 view_refuses file views.Tree t m fault e = absurd (tree_gives m fault e)
 
 pub file_refuses : (file : List ℕ) (view : View) (t : DeskState) (fault : Fault) → IsFileRefusal (len_of t file) fault → IsRefusal (Some (shows file view)) t fault

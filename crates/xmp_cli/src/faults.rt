@@ -2,17 +2,13 @@
 ghost use Rattle.std.specs.Prelude.{◌≡◌};
 ghost use Rattle.xmp_cli.specs.Order.{no_such_place, path_fault};
 
-use xmp_files::not_built;
 use xmp_values::{Fault, Part, Rule};
 
 /// A rule that PATH breaks, the second word behind the command.
 pub fn path_fault(rule: Rule) -> Fault
     ensures { result ≡ path_fault rule }
 {
-    match rule {
-        Rule::NotBuilt => not_built(),
-        _ => Fault::at(rule, Part::Words, 2),
-    }
+    Fault::at(rule, Part::Words, 2)
 }
 
 /// No value is at PATH.

@@ -1,20 +1,20 @@
 //! What a command shows of a file's meaning: the value at a path, or the lines of the tree.
 ghost use Rattle.std.specs.Prelude.{◌≡◌, IfOk};
 ghost use Rattle.std.specs.Option.{option_copied};
-ghost use Rattle.xmp_tree.specs.declared.nested.Shape.{out-Shape};
-ghost use Rattle.xmp_cli.specs.Order.{get_text, tree_text, path_fault, shape_text, value_text};
+ghost use Rattle.xmp_write.specs.Prefixes.{prefixes};
+ghost use Rattle.xmp_write.specs.ValueLines.{lines_at};
+ghost use Rattle.xmp_cli.specs.Order.{get_text, tree_text, place_text, value_text, whole};
 ghost use Rattle.xmp_cli.specs.Steps.{view_of};
 ghost use Rattle.xmp_values.specs.Stops.{fault_of, Gives};
 
 use crate::faults::{no_such_place, path_fault};
 use crate::shown::Shown;
 use std::alloc::Global;
-use xmp_edit::{Path, PathStop, find};
-use xmp_files::not_built;
+use xmp_paths::{Path, PathStop, find};
 use xmp_rdf::Meaning;
-use xmp_tree::{Shape, Value};
-use xmp_values::{Bytes, FaultStop, Memory};
-use xmp_write::{Form, Prefixes, lines};
+use xmp_tree::{Shape, Tree, Value};
+use xmp_values::{Bytes, FaultStop, Hints, Memory};
+use xmp_write::{Form, Prefixes, lines, value_lines};
 
 /// What is shown.
 #[derive(Clone, Copy, Debug, PartialEq, Eq)]
@@ -49,26 +49,46 @@ fn value_at<'p>(alloc: Global, meaning: &Meaning<'p>, path: &str) -> Result<Show
         Err(PathStop::Fault(rule)) => return Err(FaultStop::Fault(path_fault(rule))),
         Err(PathStop::Memory) => return Err(FaultStop::Memory),
     };
-    value_text(alloc, find(&meaning.tree, &path))
+    value_text(alloc, meaning, &path, find(&meaning.tree, &path))
 }
 
-fn value_text<'p>(alloc: Global, value: Option<&Value<'p>>) -> Result<Shown<'p>, FaultStop>
-    ensures { Gives fault_of result (value_text (option_copied value.entry)) }
+/// What stands at a path: a text, or the lines of another value.
+fn value_text<'p>(
+    alloc: Global,
+    meaning: &Meaning<'p>,
+    path: &Path,
+    value: Option<&Value<'p>>,
+) -> Result<Shown<'p>, FaultStop>
+    ensures { Gives fault_of result (value_text meaning.now path.now (option_copied value.entry)) }
 {
-    match value {
-        Some(value) => shape_text(alloc, &value.shape),
-        None => Err(FaultStop::Fault(no_such_place())),
+    let Some(value) = value else {
+        return Err(FaultStop::Fault(no_such_place()));
+    };
+    match &value.shape {
+        Shape::Simple(text) | Shape::Uri(text) => Ok(Shown::value(text.again(alloc)?)),
+        Shape::Struct(_) | Shape::Array(_, _) => shown_lines(alloc, meaning, path),
     }
 }
 
-fn shape_text<'p>(alloc: Global, shape: &Shape<'p>) -> Result<Shown<'p>, FaultStop>
-    ensures { Gives fault_of result (shape_text (out-Shape shape.now)) }
+/// The lines of what stands at a path.
+fn shown_lines<'p>(
+    alloc: Global,
+    meaning: &Meaning<'_>,
+    path: &Path,
+) -> Result<Shown<'p>, FaultStop>
+    ensures { Gives fault_of result (place_text meaning.now path.now) }
 {
-    match shape {
-        Shape::Simple(text) => Ok(Shown::value(text.again(alloc)?)),
-        Shape::Uri(text) => Ok(Shown::value(text.again(alloc)?)),
-        Shape::Struct(_) | Shape::Array(_, _) => Err(FaultStop::Fault(not_built())),
-    }
+    let lines = place_lines(alloc, &meaning.tree, &meaning.hints, path)?;
+    Ok(Shown::lines(lines))
+}
+
+/// The lines of what stands at a path of a tree.
+fn place_lines(alloc: Global, tree: &Tree<'_>, hints: &Hints, path: &Path) -> Result<Bytes, Memory>
+    ensures { IfOk result (λ text. text ≡ lines_at (prefixes tree.now hints.now (whole tree.now)) tree.now path.now) }
+{
+    let form = Form::whole(tree);
+    let prefixes = Prefixes::of(alloc, tree, hints, &form)?;
+    value_lines(alloc, tree, path, &prefixes)
 }
 
 /// The lines of the tree.

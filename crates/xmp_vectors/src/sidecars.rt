@@ -1,5 +1,5 @@
 //! Runs of `get` and `tree` over one sidecar.
-use crate::runs::{NOT_BUILT, both_refuse, run_over};
+use crate::runs::{both_refuse, run_over};
 use crate::{
     BLANKS, EMPTY, NO_DESCRIPTION, PADDED, PHOTO, QUALIFIED, QUALIFIED_LINES, REFERENCED,
     REFERENCED_LINES, TWICE, TYPED, TYPED_LINES, USUAL, USUAL_LINES,
@@ -9,6 +9,8 @@ use std::test::Fail;
 use xmp_values::Memory;
 
 const NO_SUCH_PLACE: &str = "refused NoSuchPlace words 2 0 0\n";
+
+const COVERAGE: &str = "dc:coverage struct 1\ndc:coverage/xmp:Label text w\n";
 
 const UNKNOWN_PREFIX: &str = "refused UnknownPrefix words 2 0 0\n";
 
@@ -47,6 +49,10 @@ fn get_shows_the_value_at_a_path(rt: HostRuntime) -> Result<(), Fail> {
         (QUALIFIED, "dc:source", "u\n"),
         (QUALIFIED, "dc:relation", "\n"),
         (REFERENCED, "a:three", "3\n"),
+        (USUAL, "dc:title[fr]", "Mer\n"),
+        (USUAL, "xmpMM:History[1]/stEvt:action", "saved\n"),
+        (QUALIFIED, "dc:coverage", COVERAGE),
+        (QUALIFIED, "dc:format/?xmp:Label", "w\n"),
     ] {
         assert!(rt; get_ends(rt.alloc(), file, path, text, "")?, "{path}");
     }
@@ -56,13 +62,11 @@ fn get_shows_the_value_at_a_path(rt: HostRuntime) -> Result<(), Fail> {
 #[test]
 fn get_refuses_other_paths(rt: HostRuntime) -> Result<(), Fail> {
     for (file, path, line) in [
-        (PHOTO, "dc:", NOT_BUILT),
+        (PHOTO, "dc:", "refused BadPath words 2 0 0\n"),
         (PHOTO, "dc:title", NO_SUCH_PLACE),
         (QUALIFIED, "xmp:Label", NO_SUCH_PLACE),
         (QUALIFIED, "none:Label", UNKNOWN_PREFIX),
         (QUALIFIED, "rdf:type", "refused Reserved words 2 0 0\n"),
-        (QUALIFIED, "dc:coverage", NOT_BUILT),
-        (USUAL, "dc:title", NOT_BUILT),
         (REFERENCED, "b:three", UNKNOWN_PREFIX),
     ] {
         assert!(rt; get_ends(rt.alloc(), file, path, "", line)?, "{path}");
