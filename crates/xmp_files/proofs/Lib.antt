@@ -6,3 +6,4 @@ pub mod Placing
 pub mod PacketLengths
 pub mod Emits
 pub mod WrittenSidecars
+pub mod Writes

@@ -56,7 +56,7 @@ pub record IsNewFile (old : List ℕ) (plan : Plan) : Type 0 where
   pub size : length (planned_file old plan) ≡ planned_len (length old) plan
 
 -- a packet as long as the file, over it
-over_all : (old new : List ℕ) → length new ≡ length old → put_at old 0 new ≡ new
+pub over_all : (old new : List ℕ) → length new ≡ length old → put_at old 0 new ≡ new
 over_all old new same = ap (λ (l : List ℕ). new ++ l) (drop_all (0 + length new) old (omega (arith, same))) ∙ append-nil new
 
 exchanged_new : (old new : List ℕ) → length new ≡ length old → IsNewFile old (InPlace (record { at = 0; bytes = new } ∷ []))
@@ -76,7 +76,7 @@ moved_cases false false true f g inside e plan h = absurd (let bad : Ok plan ≡
 moved_cases false false false f g inside e plan h = inr (refl, let is : Ok plan ≡ Ok (Relocated (packet_of e (least_of e + padding))) = h in cc)
 
 -- a packet that fits is as long as the file
-fit_length : (old : List ℕ) (joined : Bool) (e : Edited) → fits (Some (record { at = 0; bytes = old })) joined (least_of e) ≡ true → length (packet_of e (length old)) ≡ length old
+pub fit_length : (old : List ℕ) (joined : Bool) (e : Edited) → fits (Some (record { at = 0; bytes = old })) joined (least_of e) ≡ true → length (packet_of e (length old)) ≡ length old
 fit_length old joined e fit =
     let inner = and_parts (not joined) (is_writable old && nat_le (least_of e) (length old)) fit in
     let last = and_parts (is_writable old) (nat_le (least_of e) (length old)) inner.1 in

@@ -11,3 +11,4 @@ pub mod Planneds
 pub mod Emitting
 pub mod Loads
 pub mod Openings
+pub mod Written

@@ -7,6 +7,7 @@ ghost use Rattle.xmp_files.specs.declared.opening.Opened.{Opened};
 ghost use Rattle.xmp_files.specs.Keeping.{Kept};
 ghost use Rattle.xmp_files.specs.Loading.{IsLoaded};
 ghost use Rattle.xmp_files.specs.Opening.{IsOpened, Holds};
+ghost use Rattle.xmp_files.specs.Written.{SidecarIsWritten};
 
 /// What is kept of a file is one thing, or its first fault is one.
 pub fn one_kept()
@@ -21,4 +22,9 @@ pub fn one_opened()
 /// And both together.
 pub fn one_meaning()
     ensures { (file : Option (List ℕ)) (a b : Result Opened Fault) → Holds file a → Holds file b → a ≡ b }
+{}
+
+/// A sidecar that is written by a plan is read as the new tree, and keeps what the plan says.
+pub fn sidecar_is_written()
+    ensures { SidecarIsWritten }
 {}

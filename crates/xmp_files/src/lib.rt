@@ -22,7 +22,7 @@ mod plans;
 pub use emitting::emit;
 pub use faults::{no_file, not_built};
 pub use held::{Held, Need};
-pub use laws::{one_kept, one_meaning, one_opened};
+pub use laws::{one_kept, one_meaning, one_opened, sidecar_is_written};
 pub use loading::load;
 pub use opening::{Opened, read_file};
 pub use plans::{Outcome, Planned, plan};
