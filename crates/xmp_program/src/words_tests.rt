@@ -1,4 +1,6 @@
 //! The words of a command line that isn't the real one.
+ghost use Rattle.std.specs.Prelude.{◌≤◌, length, IfOk};
+
 use crate::starting::words_of;
 use std::env::{Env, FillError};
 use std::test::Fail;
@@ -10,7 +12,9 @@ struct Line<'a> {
 }
 
 /// Copies a value to the start of a buffer.
-fn fill(value: &[u8], buf: &mut [u8]) -> Result<usize, FillError> {
+fn fill(value: &[u8], buf: &mut [u8]) -> Result<usize, FillError>
+    ensures { IfOk result (λ count. count ≤ length buf.new) }
+{
     if value.len() > buf.len() {
         return Err(FillError::TooLong);
     }
