@@ -13,6 +13,10 @@ mod files;
 #[cfg(test)]
 mod kinds;
 #[cfg(test)]
+mod made_trees;
+#[cfg(test)]
+mod round_trips;
+#[cfg(test)]
 mod runs;
 #[cfg(test)]
 mod sidecars;
