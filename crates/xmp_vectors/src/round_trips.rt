@@ -152,7 +152,7 @@ fn files_read_back_to_their_trees(rt: HostRuntime) -> Result<(), Fail> {
 
 #[test]
 fn made_trees_read_back(rt: HostRuntime) -> Result<(), Fail> {
-    let formed = made_again(rt.alloc(), 1_000)?;
-    assert!(rt; formed.is_some_and(|formed| formed > 300), "{formed:?}");
+    let formed = made_again(rt.alloc(), 3_000)?;
+    assert!(rt; formed.is_some_and(|formed| formed > 1_000), "{formed:?}");
     Ok(())
 }
