@@ -1,4 +1,3 @@
-pub mod NameTests
 pub mod Refills
 pub mod Members
 pub mod Items

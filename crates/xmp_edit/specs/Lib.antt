@@ -1,5 +1,3 @@
-pub mod Paths
-pub mod Answering
 pub mod Edits
 pub mod Lines
 pub mod Actions

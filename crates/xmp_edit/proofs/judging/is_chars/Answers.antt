@@ -1,4 +1,4 @@
-use Rattle.xmp_edit.proofs.NameTests.{same_test}
+use Rattle.xmp_paths.proofs.NameTests.{same_test}
 use Rattle.xmp_edit.proofs.Judged.{is_chars-IsCharText}
 use Rattle.xmp_edit.proofs.judging.is_chars.Goals as goal
 

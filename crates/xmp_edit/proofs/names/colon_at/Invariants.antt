@@ -1,7 +1,0 @@
-use Rattle.std.proofs.Common.{◌≡◌, ℕ, ◌<◌, get_or, false}
-use Rattle.xmp_edit.specs.Paths.{is_colon}
-use Rattle.xmp_edit.proofs.names.colon_at.Given as goal
-
--- no colon stands before this place
-abbrev pub invariant-loop-at : goal.invariant-loop-at
-invariant-loop-at l = (k : ℕ) → k < l.at → is_colon (get_or l.text k 0) ≡ false
