@@ -15,6 +15,7 @@ use Rattle.jpeg_regions.specs.Jpeg.{Region, no_tail, mains, is_main}
 use Rattle.jpeg_regions.specs.Cutting.{BeginsJpeg, Tiles}
 use Rattle.jpeg_regions.specs.FromDesk.{CutCalls, CutFromCall, CutFromAnswer, CutKnownCall, StopsIn, AdvanceAnswer}
 use Rattle.xmp_base.proofs.Calls.{same_trans, counts_trans, rose_after}
+use Rattle.xmp_base.proofs.Inside.{inside_none}
 use Rattle.jpeg_regions.proofs.Near.{calls_none}
 
 -- the file's length, where it is told
@@ -71,6 +72,7 @@ pub cut_low : (s : DeskState) (name : List ℕ) (n : ℕ) → Told s.files (λ f
     → CutKnownCall s s name n (Err (Fault NoTail n))
 cut_low s name n full begins h = record {
   calls = calls_none s name;
+  inside = inside_none name 0 n s.reads s.reads refl;
   lens = refl;
   told = λ files told. absurd (omega (arith, begins_two (bytes_of files name) (begins files told), full files told));
   tiles = tt;

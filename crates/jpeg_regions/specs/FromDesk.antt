@@ -3,6 +3,7 @@ use Rattle.std.specs.Prelude.{◌≡◌, ◌⊎◌, ℕ, ◌+◌, ◌≤◌, min
 use Rattle.std.specs.declared.option.Option.{Option}
 use Rattle.std.specs.declared.result.Result.{Result}
 use Rattle.xmp_base.specs.Device.{DeskState, Told, Moved, Rose, SameFiles, NotFewer, OthersKeep, bytes_of, is_known, len_of}
+use Rattle.xmp_base.specs.Windows.{MovesInside}
 use Rattle.jpeg_regions.specs.declared.reading.Found.{Found}
 use Rattle.jpeg_regions.specs.declared.reading.Reading.{Reading}
 use Rattle.xmp_values.specs.declared.stops.DeviceStop.{DeviceStop}
@@ -46,6 +47,8 @@ StopsIn len result = Answers device_place_of result (λ _. Unit {0}) (λ f. Faul
 -- The clauses of `cut_known`, for a file of `len` bytes.
 pub record CutKnownCall (s t : DeskState) (name : List ℕ) (len : ℕ) (result : Result (List Region) DeviceStop) : Type 0 where
   pub calls : CutCalls s t name
+  -- all that was read lies in the file
+  pub inside : MovesInside name 0 len s.reads t.reads
   pub lens : t.lens ≡ s.lens
   pub told : Told s.files (λ files. CutFromAnswer (bytes_of files name) result)
   -- the regions lie one after another in the file

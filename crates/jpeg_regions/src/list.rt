@@ -47,6 +47,13 @@ impl Regions {
         self.found.len()
     }
 
+    /// The range of the main packet's payload, by places in the file; None without one.
+    pub fn main(&self) -> Option<FileSpan>
+        ensures { result ≡ option_map (λ r. r.payload) (slice_get (mains self.now) 0) }
+    {
+        main_payload(self.found.as_slice())
+    }
+
     /// What region `i` is to metadata, by its marker and the beginning of its payload.
     pub fn kind(&self, i: usize) -> RegionKind
         requires { i < length self.now }
@@ -91,6 +98,21 @@ fn second_main(found: &[Found]) -> Option<u64>
                 return Some(region.start);
             }
             seen = true;
+        }
+    }
+    None
+}
+
+/// The range of the first main region's payload.
+fn main_payload(found: &[Found]) -> Option<FileSpan>
+    ensures { result ≡ option_map (λ r. r.payload) (slice_get (mains (map region_of found.now)) 0) }
+{
+    for region in found {
+        if let RegionKind::Main = region.kind {
+            return Some(FileSpan {
+                start: region.payload,
+                end: region.payload_end(),
+            });
         }
     }
     None

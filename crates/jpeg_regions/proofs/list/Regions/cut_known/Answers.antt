@@ -9,6 +9,7 @@ use Rattle.jpeg_regions.specs.Jpeg.{FaultIn, Region, two_packets}
 use Rattle.jpeg_regions.specs.Reads.{region_of}
 use Rattle.xmp_values.specs.declared.stops.DeviceStop.TheVariants.{Device}
 use Rattle.jpeg_regions.specs.FromDesk.{StopsIn}
+use Rattle.xmp_base.proofs.Inside.{inside_none, inside_trans, inside_wider}
 use Rattle.jpeg_regions.proofs.Kept.{underway_none}
 use Rattle.jpeg_regions.proofs.Near.{calls_none, calls_more}
 use Rattle.jpeg_regions.proofs.Sizes.{cut_low, advance_stopped, main_within}
@@ -17,6 +18,7 @@ use Rattle.jpeg_regions.proofs.list.Regions.cut_known.Goals as goal
 pub loop-next-init : goal.loop-next-init
 loop-next-init g c = record {
   calls = calls_none _ _;
+  inside = inside_none _ _ _ _ _ refl;
   lens = refl;
   numbers = (c.new.ensures.len, rw (c.new-found.ensures.items, c.new.ensures.start) refl);
   cut = λ files told. (
@@ -36,6 +38,7 @@ loop-next-preserved g c =
     λ files told. subst (λ (o : Option Reading). CutSoFar (bytes_of files c.args.name.now) c.loop-next.found.items o) c.in-Some.is (c.loop-next.invariant.cut files told) in
     record {
       calls = calls_more _ _ _ _ _ _ _ _ _ c.loop-next.invariant.calls c.advance.ensures.calls order before;
+      inside = inside_trans _ _ _ _ _ _ c.loop-next.invariant.inside (inside_wider _ _ _ _ _ _ _ (omega arith) (omega (arith, numbers.0, c.in-Some.reading.room)) c.advance.ensures.calls.reads);
       lens = c.advance.ensures.calls.lens ∙ c.loop-next.invariant.lens;
       numbers = subst (λ (k : ℕ). Numbers k c.advance.new.found.items c.in-Ok.next) numbers.0 c.in-Ok.ensures.numbers;
       cut = λ files told. c.in-Ok.ensures.answer files (c.loop-next.invariant.calls.same.files ∙ told) (c.requires.told files told ∙ sym numbers.0) (before files told);
@@ -50,6 +53,7 @@ returns-in-Err g c =
     record {
       call = record {
         calls = calls_more _ _ _ _ _ _ _ _ _ c.loop-next.invariant.calls c.advance.ensures.calls order before;
+        inside = inside_trans _ _ _ _ _ _ c.loop-next.invariant.inside (inside_wider _ _ _ _ _ _ _ (omega arith) (omega (arith, numbers.0, c.in-Some.reading.room)) c.advance.ensures.calls.reads);
         lens = c.advance.ensures.calls.lens ∙ c.loop-next.invariant.lens;
         told = λ files told. advance_stopped (bytes_of files c.args.name.now) c.advance.new.found.items c.in-Err.stop
             (c.in-Err.ensures.answer files (c.loop-next.invariant.calls.same.files ∙ told) (c.requires.told files told ∙ sym numbers.0) (before files told));
@@ -67,6 +71,7 @@ returns-in-Err-of g c =
     record {
       call = record {
         calls = c.loop-next.invariant.calls;
+        inside = c.loop-next.invariant.inside;
         lens = c.loop-next.invariant.lens;
         told = λ files told. inr (record {
           regions = map region_of c.loop-next.found.items;

@@ -1,5 +1,6 @@
 use Rattle.std.proofs.Common.{◌≡◌}
 use Rattle.xmp_base.specs.Device.{Told, bytes_of}
+use Rattle.xmp_base.specs.Windows.{MovesInside}
 use Rattle.jpeg_regions.specs.Cutting.{CutSoFar, Numbers, left}
 use Rattle.jpeg_regions.specs.FromDesk.{CutCalls}
 use Rattle.jpeg_regions.proofs.list.Regions.cut_known.Given as goal
@@ -10,6 +11,7 @@ invariant-loop-next g l =
     let new = g.D.Desk.state l.desk in
     record {
       calls : CutCalls old new l.name;
+      inside : MovesInside l.name 0 l.len old.reads new.reads;
       lens : new.lens ≡ old.lens;
       numbers : Numbers l.len l.found.items l.next;
       cut : Told old.files (λ files. CutSoFar (bytes_of files l.name) l.found.items l.next);
