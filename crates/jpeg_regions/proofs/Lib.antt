@@ -6,5 +6,6 @@ pub mod Kept
 pub mod Lent
 pub mod Near
 pub mod Pieces
+pub mod Places
 pub mod Sizes
 pub mod Unique
