@@ -3,11 +3,8 @@ use Rattle.std.proofs.Common.{◌≡◌, ℕ, suc, ◌-◌, ◌+◌, ◌≤◌, 
 use Rattle.std.specs.Prelude.{encode_utf8, encode_utf8_all}
 use Rattle.std.proofs.lemmas.List.{append-nil}
 use Rattle.std.proofs.lemmas.Str.{length-le-encodes}
-use Rattle.xml_tokenizer.specs.declared.stops.Miss.{Miss}
-use Rattle.xml_tokenizer.specs.declared.stops.Miss.TheVariants as misses
 use Rattle.xml_tokenizer.specs.Classes.{is_value}
 use Rattle.xml_tokenizer.specs.Runs.{taken, past, after, width, with_front}
-use Rattle.xml_tokenizer.specs.Steps.{Misses}
 use Rattle.xml_tokenizer.specs.Values.{special_at, tail_at, value_at}
 use Rattle.xml_tokenizer.proofs.Sought.{with_both}
 
@@ -21,11 +18,10 @@ tail_more front owned count i quote cs s next total lt open_ h is e so_far =
     let two : front ++ (encode_utf8 s.0 ++ encode_utf8_all (taken (is_value quote) s.1)) ≡ owned = sym (append_assoc front (encode_utf8 s.0) _) ∙ sym e in
     ap (λ (x : List ℕ). with_front x (tail_at (count - (i + 1)) quote next)) (sym two) ∙ sym (with_both front _ _) ∙ sym one ∙ so_far
 
-pub tail_misses : (m : Miss) (front : List ℕ) (count i quote : ℕ) (cs : List ℕ) (total : Option (List ℕ × List ℕ)) → i < count
-    → after (quote ∷ []) cs ≡ None → Misses m (special_at cs) → with_front front (tail_at (count - i) quote cs) ≡ total → Misses m total
+pub tail_misses : (front : List ℕ) (count i quote : ℕ) (cs : List ℕ) (total : Option (List ℕ × List ℕ)) → i < count
+    → after (quote ∷ []) cs ≡ None → special_at cs ≡ None → with_front front (tail_at (count - i) quote cs) ≡ total → total ≡ None
 unfolding tail_at
-tail_misses misses.Memory front count i quote cs total lt open_ h so_far = tt
-tail_misses misses.Nothing front count i quote cs total lt open_ h so_far =
+tail_misses front count i quote cs total lt open_ h so_far =
     let k : count - i ≡ suc (count - (i + 1)) = omega arith in
     let one : with_front front (tail_at (count - i) quote cs) ≡ None = rw (k, open_, h) refl in
     sym so_far ∙ one

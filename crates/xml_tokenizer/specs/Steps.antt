@@ -1,5 +1,5 @@
 -- Reading from left to right: a step gives what it read and the characters that are left, or nothing.
-use Rattle.std.specs.Prelude.{◌≡◌, Option, None, Some, Result, Ok, Err}
+use Rattle.std.specs.Prelude.{◌≡◌, Option, None, Some, Result, Ok, Err, MatchOption}
 use Rattle.xml_tokenizer.specs.declared.stops.Miss.{Miss}
 use Rattle.xml_tokenizer.specs.declared.stops.Miss.TheVariants as misses
 
@@ -13,7 +13,11 @@ abbrev pub or_else : {A : Type 0} → Option A → Option A → Option A
 or_else (Some x) other = Some x
 or_else None other = other
 
--- What a function returned, seen by view, is what reading gives, unless memory ran out.
+-- What a function returned, seen by view, is what reading gives.
+abbrev pub Reads : {X Y : Type 0} → (X → Y) → Option X → Option Y → Type 0
+Reads view result read = MatchOption result (read ≡ None) (λ x. read ≡ Some (view x))
+
+-- The same of a function that wants memory, unless it ran out.
 abbrev pub Misses : {Y : Type 0} → Miss → Option Y → Type 0
 Misses misses.Memory read = Unit {0}
 Misses misses.Nothing read = read ≡ None

@@ -3,11 +3,10 @@
 ghost use Rattle.std.specs.Prelude.{◌≡◌};
 ghost use Rattle.std.specs.Str.{chars};
 ghost use Rattle.xml_tokenizer.specs.Names.{starts_name, name_at, qname_at};
-ghost use Rattle.xml_tokenizer.specs.Steps.{Gives};
+ghost use Rattle.xml_tokenizer.specs.Steps.{Reads};
 
 use crate::classes::Class;
-use crate::runs::{behind, next_char, run};
-use crate::stops::Miss;
+use crate::runs::{after, next_char, run};
 use xml_grammar::QName;
 use xmp_values::{Text, is_name_start};
 
@@ -22,29 +21,29 @@ fn starts_name(text: &str) -> bool
 
 /// A name without colon.
 #[tactic(auto, unfolding(crate::specs::Names::name_at))]
-pub fn name_of(text: &str) -> Result<(&str, &str), Miss>
-    ensures { Gives (λ x. (x.0.now, chars x.1.now)) result (name_at (chars text.now)) }
+pub fn name_of(text: &str) -> Option<(&str, &str)>
+    ensures { Reads (λ x. (x.0.now, chars x.1.now)) result (name_at (chars text.now)) }
 {
     if !starts_name(text) {
-        return Err(Miss::Nothing);
+        return None;
     }
     let (name, rest) = run(Class::NameChar, text);
-    Ok((name, rest))
+    Some((name, rest))
 }
 
 /// A name, or two that a colon joins.
 #[tactic(auto, unfolding(crate::specs::Names::qname_at))]
-pub fn qname_of(text: &str) -> Result<(QName<'_>, &str), Miss>
-    ensures { Gives (λ x. (x.0, chars x.1.now)) result (qname_at (chars text.now)) }
+pub fn qname_of(text: &str) -> Option<(QName<'_>, &str)>
+    ensures { Reads (λ x. (x.0, chars x.1.now)) result (qname_at (chars text.now)) }
 {
     let (first, rest) = name_of(text)?;
-    match behind(":", rest) {
+    match after(":", rest) {
         None => {
             let name = QName {
                 prefix: None,
                 local: Text::raw(first.as_bytes()),
             };
-            Ok((name, rest))
+            Some((name, rest))
         }
         Some(rest) => {
             let (second, rest) = name_of(rest)?;
@@ -52,7 +51,7 @@ pub fn qname_of(text: &str) -> Result<(QName<'_>, &str), Miss>
                 prefix: Some(Text::raw(first.as_bytes())),
                 local: Text::raw(second.as_bytes()),
             };
-            Ok((name, rest))
+            Some((name, rest))
         }
     }
 }

@@ -5,10 +5,8 @@ ghost use Rattle.std.specs.List.{prefix_len};
 ghost use Rattle.std.specs.Str.{chars};
 ghost use Rattle.xml_tokenizer.specs.Classes as classes;
 ghost use Rattle.xml_tokenizer.specs.Runs.{Passes, taken, past, after, begins, starts_with, is_ascii, width};
-ghost use Rattle.xml_tokenizer.specs.Steps.{Gives};
 
 use crate::classes::{Class, has, is_sure};
-use crate::stops::Miss;
 
 /// The first character, and the text after it.
 pub fn next_char(text: &str) -> Option<(char, &str)>
@@ -59,12 +57,12 @@ pub fn past_run(class: Class, text: &str) -> &str
 {
     let mut rest = text;
     for _ in 0..text.len() {
-        let behind = past_sure(class, rest);
-        let Some((c, next)) = next_char(behind) else {
-            return behind;
+        let unsure = past_sure(class, rest);
+        let Some((c, next)) = next_char(unsure) else {
+            return unsure;
         };
         if !has(class, c) {
-            return behind;
+            return unsure;
         }
         rest = next;
     }
@@ -92,7 +90,7 @@ pub fn starts_with(class: Class, text: &str) -> bool
 }
 
 /// The text after an ASCII word, where it begins so.
-pub fn behind<'p>(word: &str, text: &'p str) -> Option<&'p str>
+pub fn after<'p>(word: &str, text: &'p str) -> Option<&'p str>
     requires { is_ascii word.now ≡ true }
     ensures { MatchOption result (after word.now (chars text.now) ≡ None) (λ x. after word.now (chars text.now) ≡ Some (chars x.now)) }
 {
@@ -103,34 +101,15 @@ pub fn begins(word: &str, text: &str) -> bool
     requires { is_ascii word.now ≡ true }
     ensures { result ≡ begins word.now (chars text.now) }
 {
-    behind(word, text).is_some()
-}
-
-pub fn after<'p>(word: &str, text: &'p str) -> Result<&'p str, Miss>
-    requires { is_ascii word.now ≡ true }
-    ensures { Gives (λ x. chars x.now) result (after word.now (chars text.now)) }
-{
-    match behind(word, text) {
-        Some(rest) => Ok(rest),
-        None => Err(Miss::Nothing),
-    }
+    after(word, text).is_some()
 }
 
 /// The text after a character.
-pub fn behind_char(c: char, text: &str) -> Option<&str>
+pub fn after_char(c: char, text: &str) -> Option<&str>
     ensures { MatchOption result (after (c ∷ []) (chars text.now) ≡ None) (λ x. after (c ∷ []) (chars text.now) ≡ Some (chars x.now)) }
 {
     match next_char(text) {
         Some((first, rest)) if first == c => Some(rest),
         _ => None,
-    }
-}
-
-pub fn after_char(c: char, text: &str) -> Result<&str, Miss>
-    ensures { Gives (λ x. chars x.now) result (after (c ∷ []) (chars text.now)) }
-{
-    match behind_char(c, text) {
-        Some(rest) => Ok(rest),
-        None => Err(Miss::Nothing),
     }
 }

@@ -9,11 +9,9 @@ ghost use Rattle.xmp_values.specs.Characters.{is_char};
 ghost use Rattle.xml_tokenizer.specs.declared.classes.Class.TheVariants.{Char};
 ghost use Rattle.xml_tokenizer.specs.Classes as classes;
 ghost use Rattle.xml_tokenizer.specs.Runs.{taken, past, is_ascii, up_to};
-ghost use Rattle.xml_tokenizer.specs.Steps.{Gives};
 
 use crate::classes::{Class, is_char_byte, is_value_byte};
-use crate::runs::{behind, past_run, run};
-use crate::stops::Miss;
+use crate::runs::{after, past_run, run};
 use memchr::{memchr, memchr3, memmem};
 
 /// Whether all bytes tell by themselves that they are of Chars. No byte ends the loop, so that it runs on vectors.
@@ -101,7 +99,7 @@ pub fn lacks_bracket(text: &str) -> bool
 }
 
 /// The Chars up to a word, and the text after the word.
-pub fn before<'p>(word: &str, text: &'p str) -> Option<(&'p str, &'p str)>
+pub fn up_to<'p>(word: &str, text: &'p str) -> Option<(&'p str, &'p str)>
     requires ascii { is_ascii word.now ≡ true }
     requires some { 0 < length word.now }
     ensures { MatchOption result (up_to word.now (chars text.now) ≡ None) (λ x. up_to word.now (chars text.now) ≡ Some (chars x.0.now, chars x.1.now)) }
@@ -113,19 +111,8 @@ pub fn before<'p>(word: &str, text: &'p str) -> Option<(&'p str, &'p str)>
     if !are_chars(inside) {
         return None;
     }
-    match behind(word, stop) {
+    match after(word, stop) {
         Some(rest) => Some((inside, rest)),
         None => None,
-    }
-}
-
-pub fn up_to<'p>(word: &str, text: &'p str) -> Result<(&'p str, &'p str), Miss>
-    requires ascii { is_ascii word.now ≡ true }
-    requires some { 0 < length word.now }
-    ensures { Gives (λ x. (chars x.0.now, chars x.1.now)) result (up_to word.now (chars text.now)) }
-{
-    match before(word, text) {
-        Some(parts) => Ok(parts),
-        None => Err(Miss::Nothing),
     }
 }

@@ -3,11 +3,11 @@
 ghost use Rattle.std.specs.Prelude.{◌≡◌, ◌++◌, encode_utf8_all};
 ghost use Rattle.std.specs.Str.{chars};
 ghost use Rattle.xml_tokenizer.specs.Sections.{starts_blank, comment_at, cdata_at, instruction_at};
-ghost use Rattle.xml_tokenizer.specs.Steps.{Gives};
+ghost use Rattle.xml_tokenizer.specs.Steps.{Gives, Reads};
 
 use crate::lines::lines_of;
 use crate::names::name_of;
-use crate::runs::{after, behind, next_char};
+use crate::runs::{after, next_char};
 use crate::searches::up_to;
 use crate::stops::Miss;
 use std::alloc::Global;
@@ -15,8 +15,8 @@ use xmp_values::{Text, is_blank};
 
 /// A comment after its `<!--`.
 #[tactic(auto, unfolding(crate::specs::Sections::comment_at, xmp_values::specs::Characters::is_char))]
-pub fn past_comment(text: &str) -> Result<&str, Miss>
-    ensures { Gives (λ x. chars x.now) result (comment_at (chars text.now)) }
+pub fn past_comment(text: &str) -> Option<&str>
+    ensures { Reads (λ x. chars x.now) result (comment_at (chars text.now)) }
 {
     let (_, rest) = up_to("--", text)?;
     after(">", rest)
@@ -27,7 +27,7 @@ pub fn past_comment(text: &str) -> Result<&str, Miss>
 pub fn cdata_of(alloc: Global, text: &str) -> Result<(Text<'_>, &str), Miss>
     ensures { Gives (λ x. (x.0, chars x.1.now)) result (cdata_at (chars text.now)) }
 {
-    let (inside, rest) = up_to("]]>", text)?;
+    let (inside, rest) = up_to("]]>", text).ok_or(Miss::Nothing)?;
     let lines = lines_of(alloc, inside)?;
     Ok((lines, rest))
 }
@@ -43,19 +43,19 @@ pub fn starts_blank(text: &str) -> bool
 
 /// An instruction after its `<?`.
 #[tactic(auto, unfolding(crate::specs::Sections::instruction_at, xmp_values::specs::Characters::is_char))]
-pub fn past_instruction(text: &str) -> Result<&str, Miss>
-    ensures { Gives (λ x. chars x.now) result (instruction_at (chars text.now)) }
+pub fn past_instruction(text: &str) -> Option<&str>
+    ensures { Reads (λ x. chars x.now) result (instruction_at (chars text.now)) }
 {
     let (target, rest) = name_of(text)?;
     if target.eq_ignore_ascii_case("xml") {
-        return Err(Miss::Nothing);
+        return None;
     }
-    if let Some(end) = behind("?>", rest) {
-        return Ok(end);
+    if let Some(end) = after("?>", rest) {
+        return Some(end);
     }
     if !starts_blank(rest) {
-        return Err(Miss::Nothing);
+        return None;
     }
     let (_, end) = up_to("?>", rest)?;
-    Ok(end)
+    Some(end)
 }

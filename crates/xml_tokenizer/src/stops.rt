@@ -1,4 +1,4 @@
-//! Why nothing was read.
+//! Why a step that wants memory read nothing.
 
 ghost use Rattle.std.specs.Prelude.{◌≡◌};
 ghost use Rattle.xml_tokenizer.specs.declared.stops.Miss.TheVariants as misses;

@@ -8,12 +8,12 @@ ghost use Rattle.xml_grammar.specs.Rows.{StandsRow, pieces_of, IsSpelled};
 ghost use Rattle.xml_tokenizer.specs.Faults.{markup_rule, rule_at};
 ghost use Rattle.xml_tokenizer.specs.Stands.{IsRuleIn, IsBehind};
 ghost use Rattle.xml_tokenizer.specs.Tokens.{is_start, is_inside, question_at, section_at, markup_at, plain_front, plain_back, run_at, token_at};
-ghost use Rattle.xml_tokenizer.specs.Steps.{Gives};
+ghost use Rattle.xml_tokenizer.specs.Steps.{Gives, Reads};
 
 use crate::declarations::declaration_of;
 use crate::references::reference_of;
-use crate::runs::{after, begins, behind, next_char};
-use crate::searches::{before, lacks_bracket, plain_text};
+use crate::runs::{after, begins, next_char};
+use crate::searches::{lacks_bracket, plain_text, up_to};
 use crate::sections::{cdata_of, past_comment, past_instruction};
 use crate::stops::Miss;
 use crate::tags::{end_of, start_of};
@@ -36,31 +36,29 @@ fn is_inside(mode: Mode) -> bool
 
 /// After `<?`.
 #[tactic(auto, unfolding(crate::specs::Tokens::question_at))]
-fn question_of(start: bool, text: &str) -> Result<(Token<'_>, &str), Miss>
-    ensures { Gives (λ x. (x.0, chars x.1.now)) result (question_at start (chars text.now)) }
+fn question_of(start: bool, text: &str) -> Option<(Token<'_>, &str)>
+    ensures { Reads (λ x. (x.0, chars x.1.now)) result (question_at start (chars text.now)) }
 {
     if start {
-        if let Some(rest) = behind("xml", text) {
-            match declaration_of(rest) {
-                Ok((encoding, rest)) => return Ok((Token::Declaration(encoding), rest)),
-                Err(Miss::Nothing) => {}
-                Err(Miss::Memory) => return Err(Miss::Memory),
+        if let Some(rest) = after("xml", text) {
+            if let Some((encoding, rest)) = declaration_of(rest) {
+                return Some((Token::Declaration(encoding), rest));
             }
         }
     }
     let rest = past_instruction(text)?;
-    Ok((Token::Instruction, rest))
+    Some((Token::Instruction, rest))
 }
 
 /// After `<!`.
 fn section_of(alloc: Global, text: &str) -> Result<(Token<'_>, &str), Miss>
     ensures { Gives (λ x. (x.0, chars x.1.now)) result (section_at (chars text.now)) }
 {
-    if let Some(rest) = behind("--", text) {
-        let rest = past_comment(rest)?;
+    if let Some(rest) = after("--", text) {
+        let rest = past_comment(rest).ok_or(Miss::Nothing)?;
         return Ok((Token::Comment, rest));
     }
-    let rest = after("[CDATA[", text)?;
+    let rest = after("[CDATA[", text).ok_or(Miss::Nothing)?;
     let (data, rest) = cdata_of(alloc, rest)?;
     Ok((Token::Cdata(data), rest))
 }
@@ -72,10 +70,10 @@ fn markup_of(alloc: Global, start: bool, text: &str) -> Result<(Token<'_>, &str)
 {
     match next_char(text) {
         Some(('/', rest)) => {
-            let (name, rest) = end_of(rest)?;
+            let (name, rest) = end_of(rest).ok_or(Miss::Nothing)?;
             Ok((Token::End(name), rest))
         }
-        Some(('?', rest)) => question_of(start, rest),
+        Some(('?', rest)) => question_of(start, rest).ok_or(Miss::Nothing),
         Some(('!', rest)) => section_of(alloc, rest),
         Some(_) => {
             let (tag, rest) = start_of(alloc, text)?;
@@ -97,21 +95,21 @@ fn plain_run(inside: bool, text: &str) -> (&str, &str)
     if lacks_bracket(plain) {
         return (plain, rest);
     }
-    match before("]]>", plain) {
+    match up_to("]]>", plain) {
         Some((front, _)) => text.split_at(front.len()),
         None => (plain, rest),
     }
 }
 
 #[tactic(auto, unfolding(crate::specs::Tokens::run_at))]
-fn run_of(inside: bool, text: &str) -> Result<(Token<'_>, &str), Miss>
-    ensures { Gives (λ x. (x.0, chars x.1.now)) result (run_at inside (chars text.now)) }
+fn run_of(inside: bool, text: &str) -> Option<(Token<'_>, &str)>
+    ensures { Reads (λ x. (x.0, chars x.1.now)) result (run_at inside (chars text.now)) }
 {
     let (plain, rest) = plain_run(inside, text);
     if plain.is_empty() {
-        return Err(Miss::Nothing);
+        return None;
     }
-    Ok((Token::Run(Text::raw(plain.as_bytes())), rest))
+    Some((Token::Run(Text::raw(plain.as_bytes())), rest))
 }
 
 #[tactic(auto, unfolding(crate::specs::Tokens::token_at))]
@@ -121,11 +119,11 @@ fn read(alloc: Global, mode: Mode, text: &str) -> Result<(Token<'_>, &str), Miss
     match next_char(text) {
         Some(('<', rest)) => markup_of(alloc, is_start(mode), rest),
         Some(('&', rest)) => {
-            let (c, rest) = reference_of(rest)?;
+            let (c, rest) = reference_of(rest).ok_or(Miss::Nothing)?;
             Ok((Token::Reference(c), rest))
         }
         Some(('\r', rest)) => Ok((Token::LineEnd, after_feed(rest))),
-        Some(_) => run_of(is_inside(mode), text),
+        Some(_) => run_of(is_inside(mode), text).ok_or(Miss::Nothing),
         None => Err(Miss::Nothing),
     }
 }

@@ -4,12 +4,12 @@ ghost use Rattle.std.specs.Prelude.{◌≡◌};
 ghost use Rattle.std.specs.Str.{chars};
 ghost use Rattle.std.specs.String.{string_bytes};
 ghost use Rattle.xml_tokenizer.specs.Runs.{with_front};
-ghost use Rattle.xml_tokenizer.specs.Steps.{Gives};
+ghost use Rattle.xml_tokenizer.specs.Steps.{Gives, Reads};
 ghost use Rattle.xml_tokenizer.specs.Values.{equals_at, quote_at, past_feed, special_at, tail_at, value_at};
 
 use crate::classes::Class;
 use crate::references::reference_of;
-use crate::runs::{after, behind_char, next_char, past_run, run, width_of};
+use crate::runs::{after, after_char, next_char, past_run, run, width_of};
 use crate::searches::value_text;
 use crate::stops::Miss;
 use std::alloc::Global;
@@ -17,21 +17,21 @@ use xmp_values::{Bytes, Text};
 
 /// `=` in white space.
 #[tactic(auto, unfolding(crate::specs::Values::equals_at))]
-pub fn past_equals(text: &str) -> Result<&str, Miss>
-    ensures { Gives (λ x. chars x.now) result (equals_at (chars text.now)) }
+pub fn past_equals(text: &str) -> Option<&str>
+    ensures { Reads (λ x. chars x.now) result (equals_at (chars text.now)) }
 {
     let rest = after("=", past_run(Class::Blank, text))?;
-    Ok(past_run(Class::Blank, rest))
+    Some(past_run(Class::Blank, rest))
 }
 
 /// Either quote.
 #[tactic(auto, unfolding(crate::specs::Values::quote_at))]
-pub fn quote_of(text: &str) -> Result<(char, &str), Miss>
-    ensures { Gives (λ x. (x.0, chars x.1.now)) result (quote_at (chars text.now)) }
+pub fn quote_of(text: &str) -> Option<(char, &str)>
+    ensures { Reads (λ x. (x.0, chars x.1.now)) result (quote_at (chars text.now)) }
 {
     match next_char(text) {
-        Some((c, rest)) if c == '"' || c == '\'' => Ok((c, rest)),
-        _ => Err(Miss::Nothing),
+        Some((c, rest)) if c == '"' || c == '\'' => Some((c, rest)),
+        _ => None,
     }
 }
 
@@ -47,14 +47,14 @@ pub fn after_feed(text: &str) -> &str
 
 /// What isn't read as it is written.
 #[tactic(auto, unfolding(crate::specs::Values::special_at))]
-fn special_of(text: &str) -> Result<(char, &str), Miss>
-    ensures { Gives (λ x. (x.0, chars x.1.now)) result (special_at (chars text.now)) }
+fn special_of(text: &str) -> Option<(char, &str)>
+    ensures { Reads (λ x. (x.0, chars x.1.now)) result (special_at (chars text.now)) }
 {
     match next_char(text) {
         Some(('&', rest)) => reference_of(rest),
-        Some(('\r', rest)) => Ok((' ', after_feed(rest))),
-        Some(('\t' | '\n', rest)) => Ok((' ', rest)),
-        _ => Err(Miss::Nothing),
+        Some(('\r', rest)) => Some((' ', after_feed(rest))),
+        Some(('\t' | '\n', rest)) => Some((' ', rest)),
+        _ => None,
     }
 }
 
@@ -70,11 +70,13 @@ fn tail_of<'p>(
     let mut owned = front;
     let mut rest = text;
     for _ in 0..steps {
-        if let Some(behind) = behind_char(quote, rest) {
-            return Ok((owned, behind));
+        if let Some(next) = after_char(quote, rest) {
+            return Ok((owned, next));
         }
-        let (c, behind) = special_of(rest)?;
-        let (plain, next) = run(Class::Value(quote), behind);
+        let Some((c, literal)) = special_of(rest) else {
+            return Err(Miss::Nothing);
+        };
+        let (plain, next) = run(Class::Value(quote), literal);
         owned.push(c)?;
         owned.push_str(plain)?;
         rest = next;
@@ -88,10 +90,10 @@ pub fn value_of(alloc: Global, quote: char, text: &str) -> Result<(Text<'_>, &st
     ensures { Gives (λ x. (x.0, chars x.1.now)) result (value_at quote (chars text.now)) }
 {
     let (plain, rest) = value_text(quote, text);
-    if let Some(behind) = behind_char(quote, rest) {
-        return Ok((Text::raw(plain.as_bytes()), behind));
+    if let Some(next) = after_char(quote, rest) {
+        return Ok((Text::raw(plain.as_bytes()), next));
     }
     let front = String::from_str(alloc, plain)?;
-    let (owned, behind) = tail_of(front, quote, width_of(text), rest)?;
-    Ok((Text::own(Bytes::from_vec(owned.into_bytes())), behind))
+    let (owned, next) = tail_of(front, quote, width_of(text), rest)?;
+    Ok((Text::own(Bytes::from_vec(owned.into_bytes())), next))
 }

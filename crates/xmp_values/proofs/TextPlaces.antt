@@ -9,6 +9,7 @@ use Rattle.std.specs.Cmp.Lexicographic.{slice_cmp}
 use Rattle.std.specs.BTreeMap.{BTreeMap, UpdatesBy}
 use Rattle.std.proofs.lemmas.Bool.Decides.{same_from_decides}
 use Rattle.std.proofs.lemmas.List.{map-append, length-map}
+use Rattle.std.proofs.lemmas.List.Folds.{list_any-append}
 use Rattle.std.proofs.lemmas.Map.Text.{btree_map_updates_str}
 use Rattle.std.proofs.lemmas.Slice.Eq.{bytes_eq-Decides}
 use Rattle.xmp_values.specs.Texts.{with_text, texts_of, text_in, place_in, HasPlaces}
@@ -92,3 +93,22 @@ module _ (text : List ℕ) (places : BTreeMap (Bor (List ℕ)) ℕ) (keys : List
   with_new there e false_is key more keyed put =
       ap texts_of put ∙ map-append (λ t. t.now) keys (key ∷ []) ∙ ap (λ ts. ts ++ key.now ∷ []) view ∙ ap (λ t. seen ++ t ∷ []) keyed
       ∙ sym (ap (λ b. if b then seen else seen ++ text ∷ []) (sym (is_there there e) ∙ false_is))
+
+-- a text that is put in is among the texts, and no other is new
+pub list_any-with_text : (texts : List (List ℕ)) (text space : List ℕ) → list_any (bytes_eq space) (with_text texts text) ≡ (list_any (bytes_eq space) texts || (bytes_eq space text || false))
+list_any-with_text texts text space = by (list_any (bytes_eq text) texts) refl
+  where
+    one : (b : Bool) → bytes_eq space text ≡ b → list_any (bytes_eq text) texts ≡ true → list_any (bytes_eq space) texts ≡ (list_any (bytes_eq space) texts || (b || false))
+    one true is there =
+        let same : space ≡ text = (bytes_eq-Decides space text).0 is in
+        let here : list_any (bytes_eq space) texts ≡ true = ap (λ (t : List ℕ). list_any (bytes_eq t) texts) same ∙ there in
+        here ∙ sym (ap (λ (b : Bool). b || true) here)
+    one false is there = plain (list_any (bytes_eq space) texts)
+      where
+        plain : (b : Bool) → b ≡ (b || false)
+        plain true = refl
+        plain false = refl
+
+    by : (b : Bool) → list_any (bytes_eq text) texts ≡ b → list_any (bytes_eq space) (cond b texts (texts ++ text ∷ [])) ≡ (list_any (bytes_eq space) texts || (bytes_eq space text || false))
+    by true there = one (bytes_eq space text) refl there
+    by false there = list_any-append (bytes_eq space) texts (text ∷ [])

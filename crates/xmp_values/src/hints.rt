@@ -27,13 +27,6 @@ impl Hint {
         let prefix = Bytes::from_slice(alloc, self.prefix.as_slice())?;
         Ok(Hint { space, prefix })
     }
-
-    /// `try_clone`, by its former name.
-    pub fn again(&self, alloc: Global) -> Result<Hint, Memory>
-        ensures { IfOk result (λ h. h ≡ self.now) }
-    {
-        self.try_clone(alloc)
-    }
 }
 
 /// Whether a hint is valid by itself: its namespace is text of one or more Chars and isn't that of
@@ -159,13 +152,6 @@ impl Hints {
         ensures { IfOk result (λ hs. hs ≡ self.now) }
     {
         Ok(Hints::from_list(copies(alloc, self.as_slice())?))
-    }
-
-    /// `try_clone`, by its former name.
-    pub fn again(&self, alloc: Global) -> Result<Hints, Memory>
-        ensures { IfOk result (λ hs. hs ≡ self.now) }
-    {
-        self.try_clone(alloc)
     }
 
     /// The hints as a list, without copying them.

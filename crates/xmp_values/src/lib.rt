@@ -36,10 +36,12 @@ pub use rules::Rule;
 pub use sequence::{Bytes, Sequence};
 pub use spaces::{
     is_rdf_namespace, is_rdf_space, is_xml_namespace, is_xml_space, is_xmlns_namespace,
-    is_xmlns_space,
 };
 pub use span::Span;
 pub use stops::{DeviceStop, FaultStop, FileStop, PlaceStop, RuleStop};
 pub use text::{Name, Text};
 pub use text_sets::TextSet;
 pub use words::Words;
+
+#[cfg(test)]
+mod tests;

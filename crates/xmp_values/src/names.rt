@@ -38,7 +38,7 @@ impl<'n> NameSet<'n> {
         }
     }
 
-    /// Puts a name in, and tells whether it is new. Without memory the set stays as it was.
+    /// Puts a name in, and tells whether it is new. Where memory runs out, the set stays as it was.
     pub fn insert(&mut self, space: &'n [u8], local: &'n [u8]) -> Result<bool, Memory>
         ensures added { IfOk result (λ is_new. MatchBool is_new (Contains self.old (named space.now local.now) → ⊥) (Contains self.old (named space.now local.now))) }
         ensures holds { OnOk result ((n : Name) → Contains self.new n ↔ (Contains self.old n ⊎ (n ≡ named space.now local.now))) }

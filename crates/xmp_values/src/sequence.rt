@@ -92,16 +92,20 @@ impl<T> Sequence<T> {
 }
 
 impl<T: Drop> Sequence<T> {
-    /// Puts an item at the end. Without memory the list stays as it was, and the item is dropped.
+    /// Puts an item at the end. Where memory runs out, the list stays as it was, and the item is dropped.
     pub fn push(&mut self, item: T) -> Result<(), Memory>
         ensures ok { OnOk result (self.new ≡ self.old ++ item ∷ []) }
         ensures err { OnErr result (self.new ≡ self.old) }
     {
+        // A `Vec` takes room for four at once, and most lists of a document have one item.
+        if self.items.is_empty() {
+            self.items.reserve_exact(1)?;
+        }
         self.items.push(item)?;
         Ok(())
     }
 
-    /// Moves the items of `more` to the end. Without memory the list stays as it was.
+    /// Moves the items of `more` to the end. Where memory runs out, the list stays as it was.
     pub fn append(&mut self, more: Sequence<T>) -> Result<(), Memory>
         ensures ok { OnOk result (self.new ≡ self.old ++ more) }
         ensures err { OnErr result (self.new ≡ self.old) }
@@ -111,7 +115,7 @@ impl<T: Drop> Sequence<T> {
         Ok(())
     }
 
-    /// Puts an item before that at a place of at most the length. Without memory the list stays.
+    /// Puts an item before that at a place of at most the length. Where memory runs out, the list stays.
     pub fn insert(&mut self, at: usize, item: T) -> Result<(), Memory>
         requires { at ≤ length self.old }
         ensures ok { OnOk result (self.new ≡ insert self.old at item) }

@@ -39,10 +39,3 @@ pub fn is_xml_space(space: &[u8]) -> bool
 {
     is_xml_namespace(space)
 }
-
-/// `is_xmlns_namespace`, by its former name.
-pub fn is_xmlns_space(space: &[u8]) -> bool
-    ensures { IsTrue result ↔ (space.now ≡ xmlns_space) }
-{
-    is_xmlns_namespace(space)
-}

@@ -115,13 +115,6 @@ impl<'p> Name<'p> {
         Ok(Name { space, local })
     }
 
-    /// `try_clone`, by its former name.
-    pub fn again(&self, alloc: Global) -> Result<Name<'p>, Memory>
-        ensures { IfOk result (λ n. n ≡ self.now) }
-    {
-        self.try_clone(alloc)
-    }
-
     /// Whether the names have the same namespace and the same local part.
     pub fn same_name(&self, other: &Name<'_>) -> bool
         ensures { IsTrue result ↔ (self.now ≡ other.now) }

@@ -40,7 +40,7 @@ impl<'t> TextSet<'t> {
         }
     }
 
-    /// Puts a text at the end unless it is there, and tells whether it is new. Without memory the
+    /// Puts a text at the end unless it is there, and tells whether it is new. Where memory runs out, the
     /// set stays as it was.
     pub fn insert(&mut self, text: &'t [u8]) -> Result<bool, Memory>
         ensures is_new { IfOk result (λ is_new. is_new ≡ not (list_any (bytes_eq text.now) self.old)) }

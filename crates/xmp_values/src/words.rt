@@ -52,7 +52,7 @@ impl Words {
         }
     }
 
-    /// Copies a word to the end. Without memory the words stay as they were.
+    /// Copies a word to the end. Where memory runs out, the words stay as they were.
     pub fn push(&mut self, word: &str) -> Result<(), Memory>
         ensures ok { OnOk result (self.new ≡ self.old ++ word.now ∷ []) }
         ensures err { OnErr result (self.new ≡ self.old) }

@@ -9,11 +9,11 @@ use Rattle.xml_tokenizer.proofs.runs.past_run.Goals as goal
 
 pub loop-preserved : goal.loop-preserved
 loop-preserved c =
-    let w = went_pass (has c.args.class) c.args.text.now c.loop.rest.now c.past_sure-behind.result.now c.loop.invariant.went c.past_sure-behind.ensures in
-    let shorter : length c.past_sure-behind.result.now ≤ length c.loop.rest.now = omega (arith, ap length c.past_sure-behind.ensures.2, length-append (encode_utf8_all c.past_sure-behind.ensures.0) c.past_sure-behind.result.now) in
+    let w = went_pass (has c.args.class) c.args.text.now c.loop.rest.now c.past_sure-unsure.result.now c.loop.invariant.went c.past_sure-unsure.ensures in
+    let shorter : length c.past_sure-unsure.result.now ≤ length c.loop.rest.now = omega (arith, ap length c.past_sure-unsure.ensures.2, length-append (encode_utf8_all c.past_sure-unsure.ensures.0) c.past_sure-unsure.result.now) in
     record {
-      text = IsUtf8-past_char c.past_sure-behind.result.now c.in-Some.next.now c.in-Some.c c.past_sure-behind.utf8 c.in-Some.ensures.some.0;
-      went = went_more (has c.args.class) c.args.text.now c.past_sure-behind.result.now c.in-Some.next.now c.in-Some.c w c.in-Some.ensures.some.0 c.in-Some.ensures.some.1 (sym c.has.ensures ∙ c.if-not-has.false);
+      text = IsUtf8-past_char c.past_sure-unsure.result.now c.in-Some.next.now c.in-Some.c c.past_sure-unsure.utf8 c.in-Some.ensures.some.0;
+      went = went_more (has c.args.class) c.args.text.now c.past_sure-unsure.result.now c.in-Some.next.now c.in-Some.c w c.in-Some.ensures.some.0 c.in-Some.ensures.some.1 (sym c.has.ensures ∙ c.if-not-has.false);
       fuel = omega (arith, shorter, c.in-Some.ensures.some.2, c.loop.invariant.fuel);
     }
 
@@ -25,20 +25,20 @@ returns-clause-rest c = (went_end (has c.args.class) c.args.text.now c.loop.rest
 
 pub returns-in_default-clause-parts : goal.returns-in_default-clause-parts
 returns-in_default-clause-parts c =
-    let w = went_pass (has c.args.class) c.args.text.now c.loop.rest.now c.past_sure-behind.result.now c.loop.invariant.went c.past_sure-behind.ensures in
-    (went_end (has c.args.class) c.args.text.now c.past_sure-behind.result.now w (none_here c.next_char.result _ c.next_char.ensures.empty c.in_default.is)).parts
+    let w = went_pass (has c.args.class) c.args.text.now c.loop.rest.now c.past_sure-unsure.result.now c.loop.invariant.went c.past_sure-unsure.ensures in
+    (went_end (has c.args.class) c.args.text.now c.past_sure-unsure.result.now w (none_here c.next_char.result _ c.next_char.ensures.empty c.in_default.is)).parts
 
 pub returns-in_default-clause-rest : goal.returns-in_default-clause-rest
 returns-in_default-clause-rest c =
-    let w = went_pass (has c.args.class) c.args.text.now c.loop.rest.now c.past_sure-behind.result.now c.loop.invariant.went c.past_sure-behind.ensures in
-    (went_end (has c.args.class) c.args.text.now c.past_sure-behind.result.now w (none_here c.next_char.result _ c.next_char.ensures.empty c.in_default.is)).same
+    let w = went_pass (has c.args.class) c.args.text.now c.loop.rest.now c.past_sure-unsure.result.now c.loop.invariant.went c.past_sure-unsure.ensures in
+    (went_end (has c.args.class) c.args.text.now c.past_sure-unsure.result.now w (none_here c.next_char.result _ c.next_char.ensures.empty c.in_default.is)).same
 
 pub returns-then-not-has-clause-parts : goal.returns-then-not-has-clause-parts
 returns-then-not-has-clause-parts c =
-    let w = went_pass (has c.args.class) c.args.text.now c.loop.rest.now c.past_sure-behind.result.now c.loop.invariant.went c.past_sure-behind.ensures in
-    (went_stop (has c.args.class) c.args.text.now c.past_sure-behind.result.now c.in-Some.next.now c.in-Some.c w c.in-Some.ensures.some.1 (sym c.has.ensures ∙ c.if-not-has.true)).parts
+    let w = went_pass (has c.args.class) c.args.text.now c.loop.rest.now c.past_sure-unsure.result.now c.loop.invariant.went c.past_sure-unsure.ensures in
+    (went_stop (has c.args.class) c.args.text.now c.past_sure-unsure.result.now c.in-Some.next.now c.in-Some.c w c.in-Some.ensures.some.1 (sym c.has.ensures ∙ c.if-not-has.true)).parts
 
 pub returns-then-not-has-clause-rest : goal.returns-then-not-has-clause-rest
 returns-then-not-has-clause-rest c =
-    let w = went_pass (has c.args.class) c.args.text.now c.loop.rest.now c.past_sure-behind.result.now c.loop.invariant.went c.past_sure-behind.ensures in
-    (went_stop (has c.args.class) c.args.text.now c.past_sure-behind.result.now c.in-Some.next.now c.in-Some.c w c.in-Some.ensures.some.1 (sym c.has.ensures ∙ c.if-not-has.true)).same
+    let w = went_pass (has c.args.class) c.args.text.now c.loop.rest.now c.past_sure-unsure.result.now c.loop.invariant.went c.past_sure-unsure.ensures in
+    (went_stop (has c.args.class) c.args.text.now c.past_sure-unsure.result.now c.in-Some.next.now c.in-Some.c w c.in-Some.ensures.some.1 (sym c.has.ensures ∙ c.if-not-has.true)).same
