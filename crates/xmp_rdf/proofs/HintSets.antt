@@ -1,5 +1,5 @@
 -- Sets of the namespaces of hints, and the hints that they tell apart.
-use Rattle.std.proofs.Common.{◌≡◌, ◌≢◌, ℕ, ◌<◌, suc, length, get_or, Bool, true, false, cond, not, ◌||◌, List, [], ◌∷◌, ◌++◌, refl, sym, ap, ◌∙◌, arith}
+use Rattle.std.proofs.Common.{◌≡◌, ◌≢◌, ℕ, ◌<◌, suc, length, get_or, true, false, cond, not, ◌||◌, List, [], ◌∷◌, ◌++◌, refl, sym, ap, ◌∙◌, arith}
 use Rattle.std.specs.Prelude.{AllPairs, filter}
 use Rattle.std.specs.List.{list_any}
 use Rattle.std.specs.Str.{bytes_eq}
@@ -11,32 +11,14 @@ use Rattle.std.proofs.lemmas.Slice.Eq.{bytes_eq-Decides}
 use Rattle.xmp_values.specs.declared.hints.Hint.{Hint}
 use Rattle.xmp_values.specs.Hints.{IsValidHint, AreValid, has_space}
 use Rattle.xmp_values.specs.Texts.{with_text}
+use Rattle.xmp_values.proofs.TextPlaces.{list_any-with_text}
 use Rattle.rdf_forms.specs.Merging.{new_hints}
 use Rattle.xmp_rdf.specs.SpaceSets.{HasSpaces}
-
--- a text that is put in is among the texts, and no other is new
-among : (texts : List (List ℕ)) (text space : List ℕ) → list_any (bytes_eq space) (with_text texts text) ≡ (list_any (bytes_eq space) texts || (bytes_eq space text || false))
-among texts text space = by (list_any (bytes_eq text) texts) refl
-  where
-    one : (b : Bool) → bytes_eq space text ≡ b → list_any (bytes_eq text) texts ≡ true → list_any (bytes_eq space) texts ≡ (list_any (bytes_eq space) texts || (b || false))
-    one true is there =
-        let same : space ≡ text = (bytes_eq-Decides space text).0 is in
-        let here : list_any (bytes_eq space) texts ≡ true = ap (λ (t : List ℕ). list_any (bytes_eq t) texts) same ∙ there in
-        here ∙ sym (ap (λ (b : Bool). b || true) here)
-    one false is there = plain (list_any (bytes_eq space) texts)
-      where
-        plain : (b : Bool) → b ≡ (b || false)
-        plain true = refl
-        plain false = refl
-
-    by : (b : Bool) → list_any (bytes_eq text) texts ≡ b → list_any (bytes_eq space) (cond b texts (texts ++ text ∷ [])) ≡ (list_any (bytes_eq space) texts || (bytes_eq space text || false))
-    by true there = one (bytes_eq space text) refl there
-    by false there = list_any-append (bytes_eq space) texts (text ∷ [])
 
 -- a set with the namespace of one hint more
 pub spaces_more : (hints : List Hint) (h : Hint) (old new : List (List ℕ)) (text : List ℕ) → text ≡ h.space → HasSpaces old hints → new ≡ with_text old text → HasSpaces new (hints ++ h ∷ [])
 spaces_more hints h old new text is has put space =
-    ap (list_any (bytes_eq space)) put ∙ among old text space
+    ap (list_any (bytes_eq space)) put ∙ list_any-with_text old text space
     ∙ (λ i. has space i || (bytes_eq space (is i) || false))
     ∙ sym (list_any-append (λ g. bytes_eq space g.space) hints (h ∷ []))
 

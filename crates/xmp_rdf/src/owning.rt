@@ -10,7 +10,7 @@ fn note_again(note: &Option<Digits>) -> Option<Digits>
     ensures { result ≡ note.now }
 {
     match note {
-        Some(digits) => Some(digits.again()),
+        Some(digits) => Some(digits.copy()),
         None => None,
     }
 }

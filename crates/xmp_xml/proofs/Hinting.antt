@@ -1,55 +1,42 @@
 -- The first hint of each namespace, one by one.
-use Rattle.std.proofs.Common.{◌≡◌, ◌⊎◌, ◌↔◌, ℕ, Bool, true, false, ◌||◌, List, [], ◌∷◌, ◌++◌, refl, sym, ap, subst, ◌∙◌, inl, inr, ⊎_elim, arith}
-use Rattle.std.specs.Prelude.{Contains, MatchBool, if◌then◌else◌}
+use Rattle.std.proofs.Common.{◌≡◌, ℕ, Bool, true, false, not, ◌||◌, List, [], ◌∷◌, ◌++◌, refl, sym, ap, ◌∙◌}
+use Rattle.std.proofs.Math.Bool.{not-not}
+use Rattle.std.specs.Prelude.{if◌then◌else◌}
+use Rattle.std.specs.List.{list_any}
 use Rattle.std.specs.Str.{bytes_eq}
-use Rattle.std.proofs.lemmas.Bool.{MatchBool-at_true, MatchBool-at_false, or_cases, or_left, or_right}
 use Rattle.std.proofs.lemmas.List.Folds.{list_any-append}
 use Rattle.xmp_values.specs.declared.hints.Hint.{Hint}
-use Rattle.xmp_values.specs.declared.text.Name.{Name}
-use Rattle.xmp_values.specs.Names.{named}
+use Rattle.xmp_values.specs.Texts.{with_text}
+use Rattle.xmp_values.proofs.TextPlaces.{bytes_eq-sym, list_any-with_text}
 use Rattle.xml_grammar.specs.Trees.{first_hints}
-use Rattle.xml_grammar.proofs.Parts.{apart}
 use Rattle.xml_grammar.proofs.Scoping.{knows, knows-first, first_hints-push}
-use Rattle.xml_grammar.proofs.SoundPieces.{same_bytes, bytes_same}
 
 -- the set holds the namespaces of these hints
-abbrev pub Sees : List Name → List Hint → Type 0
-Sees seen hs = (space : List ℕ) → Contains seen (named space space) ↔ (knows space hs ≡ true)
+abbrev pub Sees : List (List ℕ) → List Hint → Type 0
+Sees seen hs = (space : List ℕ) → list_any (bytes_eq space) seen ≡ knows space hs
 
 pub sees_none : Sees [] []
-sees_none space = (λ h. absurd (omega arith), λ h. absurd cc)
-
-same_space : (x y : List ℕ) → named x x ≡ named y y → x ≡ y
-same_space x y e = ap (λ (n : Name). n.space) e
-
-knows_push : (space : List ℕ) (hs : List Hint) (h : Hint) → knows space (hs ++ h ∷ []) ≡ (knows space hs || (bytes_eq h.space space || false))
-knows_push space hs h = list_any-append (λ (g : Hint). bytes_eq g.space space) hs (h ∷ [])
-
-or_false : (b : Bool) → (b || false) ≡ true → b ≡ true
-or_false true e = refl
-or_false false e = absurd cc
+sees_none space = refl
 
 -- one hint more
-pub sees_more : (seen more : List Name) (hs : List Hint) (h : Hint) (key : Name) → key ≡ named h.space h.space → Sees seen hs
-    → ((n : Name) → Contains more n ↔ (Contains seen n ⊎ (n ≡ key))) → Sees more (hs ++ h ∷ [])
-sees_more seen more hs h key k old adds space = (
-  λ c. ap (λ (b : Bool). b) (knows_push space hs h) ∙ ⊎_elim
-      (λ before. or_left (knows space hs) _ ((old space).0 before))
-      (λ is. or_right (knows space hs) _ (or_left (bytes_eq h.space space) false (bytes_same h.space space (sym (same_space space h.space (is ∙ k))))))
-      ((adds (named space space)).0 c),
-  λ e. (adds (named space space)).1 (⊎_elim
-      (λ before. inl ((old space).1 before))
-      (λ is. inr (ap (λ (x : List ℕ). named x x) (sym (same_bytes h.space space (or_false (bytes_eq h.space space) is))) ∙ sym k))
-      (or_cases (knows space hs) _ (sym (knows_push space hs h) ∙ e))),
-)
+pub sees_more : (old new : List (List ℕ)) (hs : List Hint) (h : Hint) (text : List ℕ) → text ≡ h.space → Sees old hs → new ≡ with_text old text → Sees new (hs ++ h ∷ [])
+sees_more old new hs h text is has put space =
+    ap (list_any (bytes_eq space)) put ∙ list_any-with_text old text space
+    ∙ (λ i. has space i || (bytes_eq space (is i) || false))
+    ∙ ap (λ (b : Bool). knows space hs || (b || false)) (bytes_eq-sym space h.space)
+    ∙ sym (list_any-append (λ (g : Hint). bytes_eq g.space space) hs (h ∷ []))
 
-pub first_more : (seen : List Name) (hs firsts : List Hint) (h : Hint) (key : Name) (is_new : Bool) → key ≡ named h.space h.space → Sees seen hs → firsts ≡ first_hints hs
-    → MatchBool is_new (Contains seen key → ⊥) (Contains seen key) → (if is_new then firsts ++ h ∷ [] else firsts) ≡ first_hints (hs ++ h ∷ [])
-first_more seen hs firsts h key true k old is found =
-    let new : Contains seen key → ⊥ = MatchBool-at_true (Contains seen key → ⊥) (Contains seen key) refl found in
-    let unknown : knows h.space (first_hints hs) ≡ false = knows-first h.space hs ∙ apart (knows h.space hs) (λ e. new (subst (Contains seen) (sym k) ((old h.space).1 e))) in
-    ap (λ (gs : List Hint). gs ++ h ∷ []) is ∙ sym (first_hints-push hs h ∙ rw unknown refl)
-first_more seen hs firsts h key false k old is found =
-    let held : Contains seen key = MatchBool-at_false (Contains seen key → ⊥) (Contains seen key) refl found in
-    let known : knows h.space (first_hints hs) ≡ true = knows-first h.space hs ∙ (old h.space).0 (subst (Contains seen) k held) in
-    is ∙ sym (first_hints-push hs h ∙ rw known refl)
+pub first_more : (seen : List (List ℕ)) (hs firsts : List Hint) (h : Hint) (text : List ℕ) (is_new : Bool) → text ≡ h.space → Sees seen hs → firsts ≡ first_hints hs
+    → is_new ≡ not (list_any (bytes_eq text) seen) → (if is_new then firsts ++ h ∷ [] else firsts) ≡ first_hints (hs ++ h ∷ [])
+first_more seen hs firsts h text is_new is has firsts_are new = by is_new new
+  where
+    known : knows h.space (first_hints hs) ≡ list_any (bytes_eq text) seen
+    known = knows-first h.space hs ∙ sym (has h.space) ∙ ap (λ (t : List ℕ). list_any (bytes_eq t) seen) (sym is)
+
+    by : (b : Bool) → b ≡ not (list_any (bytes_eq text) seen) → (if b then firsts ++ h ∷ [] else firsts) ≡ first_hints (hs ++ h ∷ [])
+    by true e =
+        let unknown : knows h.space (first_hints hs) ≡ false = known ∙ sym (ap not e ∙ not-not (list_any (bytes_eq text) seen)) in
+        ap (λ (gs : List Hint). gs ++ h ∷ []) firsts_are ∙ sym (first_hints-push hs h ∙ rw unknown refl)
+    by false e =
+        let there : knows h.space (first_hints hs) ≡ true = known ∙ sym (ap not e ∙ not-not (list_any (bytes_eq text) seen)) in
+        firsts_are ∙ sym (first_hints-push hs h ∙ rw there refl)

@@ -4,7 +4,7 @@ ghost use Rattle.std.specs.Prelude.{◌≡◌, ◌++◌, ◌∷◌, [], IfOk, On
 ghost use Rattle.xml_grammar.specs.Trees.{first_hints};
 
 use std::alloc::Global;
-use xmp_values::{Hint, Memory, NameSet, Sequence};
+use xmp_values::{Hint, Memory, Sequence, TextSet};
 
 fn add_if(
     alloc: Global,
@@ -24,11 +24,11 @@ fn add_if(
 pub fn first_hints(alloc: Global, all: &[Hint]) -> Result<Sequence<Hint>, Memory>
     ensures { IfOk result (λ hs. hs ≡ first_hints all.now) }
 {
-    let mut seen = NameSet::new(alloc);
+    let mut seen = TextSet::new(alloc);
     let mut firsts = Sequence::new(alloc);
     for hint in all {
         let space = hint.space.as_slice();
-        let is_new = seen.insert(space, space)?;
+        let is_new = seen.insert(space)?;
         add_if(alloc, &mut firsts, is_new, hint)?;
     }
     Ok(firsts)
