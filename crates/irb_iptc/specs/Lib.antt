@@ -1,0 +1,5 @@
+pub mod Resources
+pub mod Listing
+pub mod Reading
+pub mod Datasets
+pub mod Entries
