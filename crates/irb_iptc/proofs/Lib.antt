@@ -1,7 +1,9 @@
 pub mod Blocks
 pub mod Counting
+pub mod Digests
 pub mod Heads
 pub mod Listed
 pub mod Marked
 pub mod Pieces
 pub mod Runs
+pub mod Unique

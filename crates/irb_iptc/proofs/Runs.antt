@@ -42,7 +42,7 @@ module _ (bytes : List ℕ) (at : ℕ) (blocks : List Block) (start : ℕ) (u : 
   rest : List ℕ
   rest = drop (start - at) bytes
 
-  passed : start ≡ at + room_of u.resources
+  pub passed : start ≡ at + room_of u.resources
   unfolding rest
   passed = omega (arith, begins_length bytes u.resources (drop (start - at) bytes) u.begins, length-drop (start - at) bytes, u.from, u.within)
 

@@ -3,3 +3,4 @@ pub mod Listing
 pub mod Reading
 pub mod Datasets
 pub mod Entries
+pub mod Digest

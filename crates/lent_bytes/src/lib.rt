@@ -1,4 +1,4 @@
-//! A part of a slice of bytes, lent for writing.
+//! Parts of a slice, lent for writing.
 //!
 //! Whoever lent the whole slice has it back with that part replaced, which is what a change in
 //! place of one segment, value or resource of a file rests on. It stands on `std` alone.
@@ -6,4 +6,4 @@
 
 mod lending;
 
-pub use lending::part_mut;
+pub use lending::{array_at_mut, part_mut};
