@@ -1,12 +1,11 @@
 -- The block that stands where its head and its size were read.
-use Rattle.std.proofs.Common.{◌≡◌, ◌⊎◌, inl, inr, ℕ, zero, ◌+◌, ◌-◌, ◌*◌, ◌%◌, ◌<◌, ◌≤◌, List, [], ◌∷◌, ◌++◌, length, take, drop, refl, sym, ap, subst, ◌∙◌, arith, append_assoc}
-use Rattle.std.proofs.lemmas.List.{take_at, drop_at, length-append, length-take, length-drop, length-take-le, take-append-drop, nil_from_length}
+use Rattle.std.proofs.Common.{◌≡◌, ◌⊎◌, inl, inr, ℕ, ◌+◌, ◌%◌, ◌<◌, ◌≤◌, List, ◌∷◌, ◌++◌, length, take, drop, sym, ap, ◌∙◌, arith, append_assoc}
+use Rattle.std.proofs.lemmas.List.{drop_at, length-append, length-drop, length-take-le, take-append-drop, nil_from_length}
 use Rattle.byteorder.specs.Endian.{big_number}
-use Rattle.xmp_base.specs.declared.file_span.FileSpan.{FileSpan}
 use Rattle.irb_iptc.specs.declared.block.Block.{Block}
-use Rattle.irb_iptc.specs.Resources.{Resource, IsResource, IsPadded, Stands, IsCut, in_body, signature, name_room, head, text}
-use Rattle.irb_iptc.specs.Listing.{Placed, place, span}
-use Rattle.irb_iptc.specs.Reading.{IsNamed, IsFound, place_of}
+use Rattle.irb_iptc.specs.Resources.{Resource, IsPadded, Stands, IsCut, in_body, signature, head, text}
+use Rattle.irb_iptc.specs.Listing.{Placed, span}
+use Rattle.irb_iptc.specs.Reading.{IsNamed, IsFound}
 
 -- a head and what follows it
 pub head-append : (r : Resource) (x : List ℕ) → head r ++ x ≡ signature ++ (r.code ++ (r.named ∷ (r.name ++ (r.size ++ x))))

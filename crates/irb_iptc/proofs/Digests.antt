@@ -1,13 +1,13 @@
 -- The search for the first block of an id.
-use Rattle.std.proofs.Common.{◌≡◌, ℕ, ◌+◌, ◌-◌, ◌≤◌, Bool, true, false, cond, List, [], ◌∷◌, ◌++◌, length, take, drop, map, Option, Some, None, refl, sym, ap, subst, ◌∙◌, arith, append-nil}
-use Rattle.std.specs.Prelude.{◌==◌, filter, slice_get}
+use Rattle.std.proofs.Common.{◌≡◌, ℕ, ◌+◌, ◌-◌, Bool, true, false, cond, List, [], ◌∷◌, ◌++◌, length, take, drop, map, Option, Some, None, refl, sym, ap, subst, ◌∙◌, arith}
+use Rattle.std.specs.Prelude.{◌==◌, slice_get}
 use Rattle.std.specs.Option.{option_map}
 use Rattle.std.proofs.lemmas.List.{drop-drop}
 use Rattle.xmp_base.specs.declared.file_span.FileSpan.{FileSpan}
 use Rattle.xmp_values.specs.declared.span.Span.{Span}
 use Rattle.lent_bytes.specs.Lending.{replaced}
 use Rattle.irb_iptc.specs.declared.block.Block.{Block}
-use Rattle.irb_iptc.specs.Resources.{Resource, Stands, Begins, EndsList, IsCut, text}
+use Rattle.irb_iptc.specs.Resources.{Resource, Begins, EndsList, IsCut, text}
 use Rattle.irb_iptc.specs.Listing.{Placed, Listing, Lists, of_id, place, placed, in_memory}
 use Rattle.irb_iptc.specs.Reading.{IsFound, Underway, place_of}
 use Rattle.irb_iptc.proofs.Runs.{placed-append, room_of, passed}

@@ -1,8 +1,8 @@
 -- What the first bytes of a block say of the bytes that it stands in.
-use Rattle.std.proofs.Common.{◌≡◌, ℕ, ◌+◌, ◌-◌, ◌*◌, ◌<◌, ◌≤◌, true, nat_eq, List, [], ◌∷◌, ◌++◌, length, get_or, take, drop, refl, sym, ap, ◌∙◌, arith, lit≤, lit<}
+use Rattle.std.proofs.Common.{◌≡◌, ℕ, ◌+◌, ◌<◌, ◌≤◌, true, nat_eq, List, [], ◌∷◌, ◌++◌, length, get_or, take, drop, refl, sym, ap, ◌∙◌, arith, lit≤, lit<}
 use Rattle.std.specs.List.{starts_with}
 use lib.Pointwise.{pointwise}
-use Rattle.std.proofs.lemmas.List.{take-take, length-take, length-drop, drop_more, drop-drop, get_or-take, get_or-drop, take-append-drop, length-take-le}
+use Rattle.std.proofs.lemmas.List.{take-take, length-take, length-drop, drop_more, get_or-take, get_or-drop, take-append-drop, length-take-le}
 use Rattle.std.proofs.lemmas.Slice.Eq.{starts_is}
 use Rattle.std.proofs.lemmas.Bool.Decides.{Decides-eqb}
 use Rattle.byteorder.specs.Endian.{big_number}

@@ -1,11 +1,11 @@
 -- The dataset whose marker stands at a place of a block.
-use Rattle.std.proofs.Common.{◌≡◌, ◌⊎◌, ℕ, zero, suc, ◌+◌, ◌-◌, ◌*◌, ◌<◌, ◌≤◌, List, [], ◌∷◌, ◌++◌, length, get_or, take, drop, refl, sym, ap, subst, ◌∙◌, arith, append_assoc}
+use Rattle.std.proofs.Common.{◌≡◌, ℕ, ◌+◌, ◌-◌, ◌<◌, ◌≤◌, List, ◌∷◌, ◌++◌, length, get_or, take, drop, sym, ap, subst, ◌∙◌, arith, append_assoc}
 use Rattle.std.proofs.lemmas.List.{drop-drop, drop_more, length-append, length-drop, length-take-le, take-append-drop, take_rest}
 use Rattle.xmp_values.specs.declared.rules.Rule.{Rule}
 use Rattle.xmp_values.specs.declared.rules.Rule.TheVariants.{DatasetOut}
 use Rattle.irb_iptc.specs.declared.entry.Entry.{Entry}
-use Rattle.irb_iptc.specs.Datasets.{Dataset, Counts, Breaks, too_wide, in_head, in_count, in_bytes, text}
-use Rattle.irb_iptc.specs.Entries.{IsEntry, NoCount, wide, short, field_of}
+use Rattle.irb_iptc.specs.Datasets.{Dataset, Counts, Breaks, too_wide, in_head, in_count, in_bytes}
+use Rattle.irb_iptc.specs.Entries.{IsEntry, NoCount, wide, short}
 
 -- the rest of a rest
 pub rest_of_rest : (m n : ℕ) (xs : List ℕ) → take (length (take (length xs - n) (drop n xs)) - m) (drop m (take (length xs - n) (drop n xs))) ≡ drop (n + m) xs

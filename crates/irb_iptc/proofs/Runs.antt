@@ -1,10 +1,10 @@
 -- Blocks one after another.
-use Rattle.std.proofs.Common.{◌≡◌, ℕ, ◌+◌, ◌-◌, ◌<◌, ◌≤◌, List, [], ◌∷◌, ◌++◌, length, take, drop, map, refl, sym, ap, subst, ◌∙◌, arith, append_assoc}
+use Rattle.std.proofs.Common.{◌≡◌, ℕ, ◌+◌, ◌-◌, List, [], ◌∷◌, ◌++◌, length, drop, map, refl, sym, ap, subst, ◌∙◌, arith}
 use Rattle.std.specs.Prelude.{flat_map}
 use Rattle.std.proofs.lemmas.List.{drop_at, drop-drop, length-append, length-drop, map_push}
 use Rattle.irb_iptc.specs.declared.block.Block.{Block}
 use Rattle.irb_iptc.specs.Resources.{Resource, Stands, Begins, EndsList, IsCut, text}
-use Rattle.irb_iptc.specs.Listing.{Placed, Listing, Lists, Broken, place, placed}
+use Rattle.irb_iptc.specs.Listing.{Placed, Lists, Broken, place, placed}
 use Rattle.irb_iptc.specs.Reading.{IsFound, Underway, place_of}
 
 -- how many bytes the blocks take

@@ -1,12 +1,11 @@
 -- Bytes tell their blocks, and where the list ends.
-use Rattle.std.proofs.Common.{◌≡◌, ◌⊎◌, inl, inr, ℕ, ◌+◌, ◌-◌, ◌%◌, ◌<◌, ◌≤◌, true, false, nat_eq, List, [], ◌∷◌, ◌++◌, length, take, drop, refl, sym, ap, subst, ◌∙◌, arith, append_assoc}
+use Rattle.std.proofs.Common.{◌≡◌, inl, inr, ℕ, ◌+◌, ◌%◌, true, false, nat_eq, List, [], ◌∷◌, ◌++◌, length, take, drop, refl, sym, ap, subst, ◌∙◌, arith, append_assoc}
 use Rattle.std.specs.List.{starts_with}
 use Rattle.std.proofs.lemmas.List.{take_at, drop_at, length-append, nil_from_length}
 use Rattle.std.proofs.lemmas.Slice.Eq.{starts_is}
 use Rattle.std.proofs.lemmas.Bool.Decides.{Decides-eqb}
 use Rattle.byteorder.specs.Endian.{big_number}
 use Rattle.irb_iptc.specs.Resources.{Resource, Stands, Begins, IsPadded, EndsList, IsCut, in_front, in_name, in_body, signature, name_room, head, text}
-use Rattle.irb_iptc.specs.Listing.{Placed, Listing, Lists, Broken, placed}
 use Rattle.irb_iptc.proofs.Blocks.{head-append}
 
 pub append_same : (p q x y : List ℕ) → length p ≡ length q → p ++ x ≡ q ++ y → (p ≡ q) × (x ≡ y)

@@ -5,7 +5,6 @@ use Rattle.std.specs.List.{AllByRecursion}
 use Rattle.xmp_values.specs.declared.rules.Rule.{Rule}
 use Rattle.xmp_values.specs.declared.stops.PlaceStop.{PlaceStop}
 use Rattle.xmp_values.specs.Stops.{Answers, place_of}
-use Rattle.byteorder.specs.Endian.{big_number}
 use Rattle.irb_iptc.specs.declared.entry.Entry.{Entry}
 use Rattle.irb_iptc.specs.Datasets.{Dataset, Field, Iptc, Fails, Breaks, Counts, IsDataset, EndsBlock, text, field, width}
 use Rattle.xmp_values.specs.declared.rules.Rule.TheVariants.{DatasetOut, DatasetLong}

@@ -6,12 +6,3 @@ pub enum IrbStop {
     Fault(u64),
     Memory,
 }
-
-/// The same of a file of a device, which can fail.
-#[derive(Clone, Copy, Debug, PartialEq, Eq, Drop)]
-pub enum ScanStop {
-    Fault(u64),
-    /// A call of the device failed, and was counted.
-    Device,
-    Memory,
-}

@@ -1,8 +1,7 @@
-use Rattle.std.proofs.Common.{◌≡◌, ◌==◌, ◌-◌, ℕ, List, [], ◌∷◌, ◌++◌, Option, true, false, cond, drop, map, sym, ap, subst, ◌∙◌, arith, eq-eqb}
+use Rattle.std.proofs.Common.{◌≡◌, ◌==◌, ◌-◌, ℕ, [], ◌∷◌, ◌++◌, Option, true, false, cond, drop, map, sym, ap, subst, ◌∙◌, arith, eq-eqb}
 use Rattle.std.proofs.lemmas.Bool.{ne_eqb}
 use Rattle.std.proofs.lemmas.List.{map_push}
 use Rattle.std.specs.Option.{option_map, option_and_then}
-use Rattle.irb_iptc.specs.declared.block.Block.{Block}
 use Rattle.irb_iptc.specs.Resources.{EndsList, IsCut}
 use Rattle.irb_iptc.specs.Listing.{Placed, of_id, in_memory}
 use Rattle.irb_iptc.specs.Digest.{digest_of_block}

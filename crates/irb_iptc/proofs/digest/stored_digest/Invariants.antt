@@ -1,4 +1,4 @@
-use Rattle.std.proofs.Common.{◌≡◌, ℕ, ◌-◌, List, [], map, length}
+use Rattle.std.proofs.Common.{◌≡◌, ◌-◌, List, [], map, length}
 use Rattle.irb_iptc.specs.declared.block.Block.{Block}
 use Rattle.irb_iptc.specs.Listing.{of_id}
 use Rattle.irb_iptc.specs.Reading.{Underway, place_of}

@@ -1,4 +1,4 @@
-use Rattle.std.proofs.Common.{◌≡◌, ◌⊎◌, inl, inr, ℕ, ◌+◌, ◌-◌, ◌%◌, ◌≤◌, refl, arith}
+use Rattle.std.proofs.Common.{inl, inr, refl, arith}
 use Rattle.irb_iptc.proofs.Blocks.{cut_in_body, found}
 use Rattle.irb_iptc.proofs.head.block_of.Goals as goal
 use Rattle.irb_iptc.proofs.head.block_of.Goals.{then-room-size-2, else-room-size-2}

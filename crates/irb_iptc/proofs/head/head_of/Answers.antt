@@ -1,8 +1,8 @@
-use Rattle.std.proofs.Common.{◌≡◌, true, nat_eq, sym, ap, ◌∙◌, arith, length, take, drop}
+use Rattle.std.proofs.Common.{◌≡◌, true, nat_eq, sym, ap, ◌∙◌, arith}
 use Rattle.std.proofs.lemmas.List.{take_rest}
 use Rattle.byteorder.specs.Endian.{big_number}
 use Rattle.std.specs.List.{starts_with}
-use Rattle.irb_iptc.specs.Resources.{signature, name_room}
+use Rattle.irb_iptc.specs.Resources.{signature}
 use Rattle.irb_iptc.proofs.Heads.{cut_in_front, cut_in_name, named_here}
 use Rattle.irb_iptc.proofs.head.head_of.Goals as goal
 

@@ -1,6 +1,6 @@
-use Rattle.std.proofs.Common.{◌≡◌, ℕ, length, take, drop, sym, ap, ◌∙◌, arith}
+use Rattle.std.proofs.Common.{length, drop, sym, ap, arith}
 use Rattle.std.proofs.lemmas.List.{length-drop, take_rest}
-use Rattle.irb_iptc.proofs.Pieces.{front_piece, length-rest, piece_behind}
+use Rattle.irb_iptc.proofs.Pieces.{front_piece, piece_behind}
 use Rattle.irb_iptc.proofs.reading.next_in.Goals as goal
 
 pub returns-in-End-clause-is : goal.returns-in-End-clause-is

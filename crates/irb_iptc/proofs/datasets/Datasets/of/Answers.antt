@@ -1,4 +1,4 @@
-use Rattle.std.proofs.Common.{◌≡◌, ◌+◌, ◌<◌, ◌≤◌, Ok, length, subst}
+use Rattle.std.proofs.Common.{◌+◌, ◌<◌, ◌≤◌, Ok, length, subst}
 use Rattle.std.specs.Prelude.{IfSome}
 use Rattle.std.specs.declared.option.Option.{Option}
 use Rattle.irb_iptc.specs.declared.entry.Entry.{Entry}

@@ -1,4 +1,4 @@
-use Rattle.std.proofs.Common.{ℕ, ◌-◌, ◌≤◌, length}
+use Rattle.std.proofs.Common.{◌-◌, ◌≤◌, length}
 use Rattle.irb_iptc.specs.Entries.{Underway}
 use Rattle.irb_iptc.proofs.datasets.Datasets.of.Given as goal
 

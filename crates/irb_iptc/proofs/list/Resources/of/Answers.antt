@@ -1,4 +1,4 @@
-use Rattle.std.proofs.Common.{◌≡◌, ℕ, ◌-◌, List, drop, subst, arith}
+use Rattle.std.proofs.Common.{◌≡◌, ℕ, ◌-◌, drop, subst, arith}
 use Rattle.irb_iptc.specs.Resources.{IsCut}
 use Rattle.irb_iptc.specs.Reading.{IsFound}
 use Rattle.irb_iptc.proofs.Runs.{underway_more, broken_here}

@@ -1,4 +1,4 @@
-use Rattle.std.proofs.Common.{ℕ, ◌-◌, length}
+use Rattle.std.proofs.Common.{◌-◌, length}
 use Rattle.irb_iptc.specs.Reading.{Underway}
 use Rattle.irb_iptc.proofs.list.Resources.of.Given as goal
 

@@ -1,0 +1,100 @@
+//! Lists and blocks of the standards' forms.
+
+use crate::{Datasets, IptcStop, IrbStop, Resources, digest_of};
+use std::alloc::Global;
+use std::test::Fail;
+use xmp_base::{FileSpan, Span};
+use xmp_values::{Memory, Rule};
+
+/// A block 1028 of a keyword `cat`, and a block 1061 of 16 zero bytes.
+const LIST: &[u8] =
+    b"8BIM\x04\x04\0\0\0\0\0\x08\x1c\x02\x19\0\x03cat8BIM\x04\x25\0\0\0\0\0\x10\0\0\0\0\0\0\0\0\0\0\0\0\0\0\0\0";
+
+/// The end of a list, or the place of its fault.
+fn end_of(alloc: Global, bytes: &[u8]) -> Result<Result<u64, u64>, Memory> {
+    match Resources::of(alloc, bytes) {
+        Ok(list) => Ok(Ok(list.list_end())),
+        Err(IrbStop::Fault(place)) => Ok(Err(place)),
+        Err(IrbStop::Memory) => Err(Memory),
+    }
+}
+
+/// The number of datasets of a block, or its fault.
+fn count_of(alloc: Global, block: &[u8]) -> Result<Result<usize, (Rule, u64)>, Memory> {
+    match Datasets::of(alloc, block) {
+        Ok(datasets) => Ok(Ok(datasets.len())),
+        Err(IptcStop::Fault(rule, place)) => Ok(Err((rule, place))),
+        Err(IptcStop::Memory) => Err(Memory),
+    }
+}
+
+#[test]
+fn ends_of_lists(rt: HostRuntime) -> Result<(), Fail> {
+    let cases: [(&[u8], Result<u64, u64>); 12] = [
+        (b"", Ok(0)),
+        (b"8BI", Ok(0)),
+        (b"8BPS\0\x01\0\0", Ok(0)),
+        (b"8BIM", Err(0)),
+        (b"8BIM\x04\x04\x02", Err(0)),
+        (LIST, Ok(48)),
+        (&LIST[..47], Err(20)),
+        (&LIST[..24], Err(20)),
+        (&LIST[..23], Ok(20)),
+        // The last block may lack its pad byte.
+        (b"8BIM\x04\x04\0\0\0\0\0\x01a", Ok(13)),
+        (b"8BIM\x04\x04\0\0\0\0\0\x01a\0", Ok(14)),
+        // A name of three bytes is even with its length byte.
+        (b"8BIM\x04\x04\x03abc\0\0\0\x01a\0", Ok(16)),
+    ];
+    for (bytes, end) in cases {
+        assert_eq!(rt; end_of(rt.alloc(), bytes)?, end, "of {bytes:?}");
+    }
+    Ok(())
+}
+
+#[test]
+fn blocks_of_a_list(rt: HostRuntime) -> Result<(), Fail> {
+    let list = Resources::of(rt.alloc(), LIST).map_err(|_| Memory)?;
+    assert_eq!(rt; list.span(1028), Some(Span { start: 12, end: 20 }));
+    assert_eq!(rt; list.first_at(1061), Some(FileSpan { start: 32, end: 48 }));
+    assert_eq!(rt; list.whole_at(1028), Some(FileSpan { start: 0, end: 20 }));
+    assert_eq!(rt; list.second_at(1028), None);
+    assert_eq!(rt; list.span(1060), None);
+    Ok(())
+}
+
+#[test]
+fn faults_of_blocks(rt: HostRuntime) -> Result<(), Fail> {
+    let cases: [(&[u8], Result<usize, (Rule, u64)>); 13] = [
+        (b"", Ok(0)),
+        (b"\0\0", Ok(0)),
+        (b"\0\x1c", Err((Rule::BadDataset, 0))),
+        (b"\xff", Err((Rule::BadDataset, 0))),
+        (b"\x1c\x02\x19\0\x01a\0", Ok(1)),
+        (b"\x1c\x02\x19\0\0A", Err((Rule::BadDataset, 5))),
+        (b"\x1c\x02\x19\0\x05a", Err((Rule::DatasetOut, 0))),
+        (b"\x1c\x02\x19", Err((Rule::DatasetOut, 0))),
+        (b"\x1c\x02\x19\x80\0", Err((Rule::DatasetLong, 0))),
+        (b"\x1c\x02\x19\x80\x05", Err((Rule::DatasetLong, 0))),
+        (b"\x1c\x02\x19\x80\x02\0", Err((Rule::DatasetOut, 0))),
+        (b"\x1c\x02\x19\x80\x01\x01a", Ok(1)),
+        (
+            b"\x1c\x02\x19\x80\x04\0\x01\0\0a",
+            Err((Rule::DatasetOut, 0)),
+        ),
+    ];
+    for (block, count) in cases {
+        assert_eq!(rt; count_of(rt.alloc(), block)?, count, "of {block:?}");
+    }
+    Ok(())
+}
+
+#[test]
+fn digest_of_abc(rt: HostRuntime) -> Result<(), Fail> {
+    let digest: [u8; 16] = [
+        0x90, 0x01, 0x50, 0x98, 0x3c, 0xd2, 0x4f, 0xb0, 0xd6, 0x96, 0x3f, 0x7d, 0x28, 0xe1, 0x7f,
+        0x72,
+    ];
+    assert_eq!(rt; digest_of(b"abc"), digest);
+    Ok(())
+}
