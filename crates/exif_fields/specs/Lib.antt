@@ -1,0 +1,4 @@
+pub mod Tags
+pub mod Values
+pub mod Blocks
+pub mod Fields
