@@ -7,3 +7,6 @@ pub mod PacketLengths
 pub mod Emits
 pub mod WrittenSidecars
 pub mod Writes
+pub mod OnePlan
+pub mod LoadedKept
+pub mod MayBeWritten

@@ -32,7 +32,7 @@ pub record PiecesCall (s t : DeskState) (name bytes : List ℕ) (result : Result
 pub record EmitCall (s t : DeskState) (plan : Plan) (size : ℕ) (from to : List ℕ) (result : Result (Unit {0}) Failed) : Type 0 where
   pub counts : NotFewer s t
   pub reads : ReadsOf from s.reads t.reads
-  -- nothing is written behind the new file's end
+  -- nothing is written past the new file's end
   pub wrote : MovesInside to 0 (planned_len size plan) s.wrote t.wrote
   pub others : OthersKeep s.lens t.lens to
   pub told : Told s.files (λ files. (now : Files) × (t.files ≡ Some now) × OthersKeep files now to

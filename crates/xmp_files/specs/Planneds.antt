@@ -41,7 +41,7 @@ abbrev pub bytes_in : Option Piece → List ℕ
 bytes_in None = []
 bytes_in (Some payload) = payload.bytes
 
--- the packet behind a plan, of which there is at most one piece
+-- the packet of a plan, of which there is at most one piece
 abbrev pub new_packet : Option Piece → Plan → List ℕ
 new_packet payload Same = bytes_in payload
 new_packet payload (InPlace []) = bytes_in payload

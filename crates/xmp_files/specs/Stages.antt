@@ -3,7 +3,7 @@ use Rattle.std.specs.Prelude.{◌≡◌, Ok, Err}
 use Rattle.std.specs.declared.result.Result.{Result}
 use Rattle.xmp_values.specs.declared.faults.Fault.{Fault}
 
--- a step, and behind it the next one
+-- a step, and after it the next one
 abbrev pub followed : {A B : Type 0} → Result A Fault → (A → Result B Fault) → Result B Fault
 followed (Ok x) next = next x
 followed (Err fault) next = Err fault

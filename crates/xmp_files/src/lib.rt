@@ -1,9 +1,12 @@
-//! The layer between devices and trees: which kind a file is, and the packet that it holds.
+//! The layer between devices and trees: which kind a file is, the packet that it holds, and the new
+//! file of an edited tree.
 //!
-//! It promises what is kept of a file or the first fault in the one order of refusals, and then
-//! what it means or the first fault of its XML and RDF. It reads no byte of a file that is
-//! over its limit, and none of a picture. It stands on the devices of `xmp_base`, the packets of
-//! `xmp_packets`, the documents of `xmp_xml` and the meanings of `xmp_rdf`.
+//! It promises what is kept of a file or the first fault in the one order of refusals, what it means
+//! or the first fault of its XML and RDF, and for an edited tree the plan of the new file or the first
+//! fault of its limits; `emit` writes that file, and it is read back as the tree. It reads no byte of a
+//! file that is over its limit, and none of a picture. It stands on the devices of `xmp_base`, the
+//! packets of `xmp_packets`, the documents of `xmp_xml`, the meanings of `xmp_rdf`, the writer
+//! `xmp_write` and the law of `round_trip`.
 #![tactic(auto)]
 
 mod emitting;

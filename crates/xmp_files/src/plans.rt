@@ -1,9 +1,10 @@
 //! What becomes of a file whose tree was edited.
-ghost use Rattle.std.specs.Prelude.{◌≡◌, ◌+◌, ◌≤◌, length, IfOk, None};
+ghost use Rattle.std.specs.Prelude.{◌≡◌, ◌≢◌, ◌+◌, ◌≤◌, length, IfOk, None};
 ghost use Rattle.xmp_tree.specs.Parts.{Parts};
 ghost use Rattle.xmp_write.specs.Prefixes.{prefixes};
 ghost use Rattle.xmp_write.specs.WrittenPackets.{least_len, packet};
-ghost use Rattle.xmp_files.specs.Plans.{room_of, put_over, told, fits, planned_len, needs_relocation};
+ghost use Rattle.round_trip.specs.Law.{MayWrite};
+ghost use Rattle.xmp_files.specs.Plans.{room_of, put_over, told, fits, planned_len, needs_relocation, whole_form};
 ghost use Rattle.xmp_files.specs.Planneds.{plan_of, outcome_of, MoveAnswer, PlanAnswer, bytes_in, new_packet};
 ghost use Rattle.xmp_files.specs.Keeping.{sidecar};
 
@@ -14,7 +15,7 @@ use std::alloc::Global;
 use std::marker::Model;
 use xmp_packets::Packet;
 use xmp_tree::{Tree, equal};
-use xmp_values::{Bytes, Fault, FaultStop, Hints, Memory, Part, Rule};
+use xmp_values::{Bytes, Fault, FaultStop, Hint, Hints, Memory, Part, Rule};
 use xmp_write::{Form, Prefixes, measure, packet_into};
 
 /// What becomes of a file.
@@ -165,6 +166,13 @@ fn needs_relocation(least: u64, room: usize) -> Fault
     }
 }
 
+/// How many hints and prefixes there are: as many as a number holds, since both lists are in memory.
+fn count_of(hints: &[Hint], prefixes: &[Hint]) -> usize
+    ensures { result ≡ length hints.now + length prefixes.now }
+{
+    hints.len() + prefixes.len()
+}
+
 /// What becomes of a file whose tree changes: the new packet stands in the place of the old one where it fits,
 /// else the file is written anew.
 #[tactic(auto, using(crate::proofs::Placing::placed))]
@@ -176,10 +184,14 @@ fn change_of(
     hints: &Hints,
     patch: bool,
 ) -> Result<Exchange, FaultStop>
-    ensures { (old : Parts) → MoveAnswer held.now joined patch (record { old = old; new = tree.now; hints = hints.now; digest = None }) result }
+    ensures step { (old : Parts) → MoveAnswer held.now joined patch (record { old = old; new = tree.now; hints = hints.now; digest = None }) result }
+    // the text that was written is one that is read back
+    ensures written { IfOk result (λ _. MayWrite tree.now hints.now (whole_form tree.now)) }
 {
+    let _props = &tree.props;
     let form = Form::whole(tree);
     let prefixes = Prefixes::of(alloc, tree, hints, &form)?;
+    let _count = count_of(hints.as_slice(), prefixes.as_slice());
     let least = least_len(tree, &prefixes, &form);
     let padded = least.saturating_add(PADDING);
     if padded > PACKET_LIMIT {
@@ -198,7 +210,7 @@ fn change_of(
 /// changed inside its packet alone.
 ///
 /// # Errors
-/// The first fault of the steps behind the edits: XmpLimit of the new text, then NeedsRelocation with `patch`.
+/// The first fault of the steps after the edits: XmpLimit of the new text, then NeedsRelocation with `patch`.
 #[tactic(auto, using(crate::proofs::Placing::stops_planned))]
 pub fn plan(
     alloc: Global,
@@ -208,7 +220,9 @@ pub fn plan(
     hints: &Hints,
     patch: bool,
 ) -> Result<Planned, FaultStop>
-    ensures { PlanAnswer held.now opened.now.joined patch (record { old = opened.now.meaning.tree; new = tree.now; hints = hints.now; digest = None }) result }
+    ensures step { PlanAnswer held.now opened.now.joined patch (record { old = opened.now.meaning.tree; new = tree.now; hints = hints.now; digest = None }) result }
+    // the text of a tree that changes is one that is read back
+    ensures written { IfOk result (λ _. tree.now ≢ opened.now.meaning.tree → MayWrite tree.now hints.now (whole_form tree.now)) }
 {
     let old_len = held.size();
     if equal(tree, &opened.meaning.tree) {
