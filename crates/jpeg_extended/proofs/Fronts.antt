@@ -33,13 +33,13 @@ module _ (payload : List ℕ) where
   name_same : name_in front ≡ name_in payload
   name_same = ap (take 32) (drop-take 35 40 payload) ∙ take-take 32 40 (drop 35 payload) (omega arith)
 
-  full_same : full_in front ≡ full_in payload
+  pub full_same : full_in front ≡ full_in payload
   full_same = ap (big_number 4) (drop-take 67 8 payload) ∙ big_from-take 0 4 8 (drop 67 payload) (omega arith)
 
-  offset_same : offset_in front ≡ offset_in payload
+  pub offset_same : offset_in front ≡ offset_in payload
   offset_same = ap (big_number 4) (drop-take 71 4 payload) ∙ big_from-take 0 4 4 (drop 71 payload) (omega arith)
 
-  named_same : (name : List ℕ) (len : ℕ) → is_named name front len ≡ is_named name payload len
+  pub named_same : (name : List ℕ) (len : ℕ) → is_named name front len ≡ is_named name payload len
   named_same name len = (λ i. long i && nat_le 75 len && nat_le len 65533 && starts_take 75 payload signature (omega arith) i
       && list_all is_digit (name_same i) && bytes_eq (map capital (name_same i)) name)
 

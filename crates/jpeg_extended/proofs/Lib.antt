@@ -8,3 +8,4 @@ pub mod Orders
 pub mod OneText
 pub mod NewPortions
 pub mod Fronts
+pub mod DeskPortions

@@ -3,3 +3,4 @@ pub mod Portions
 pub mod Heads
 pub mod Joined
 pub mod Written
+pub mod FromDesk

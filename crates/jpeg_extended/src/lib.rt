@@ -5,6 +5,7 @@
 //! It stands on `xmp_base` and `xmp_values`. Adobe XMP Specification Part 3, section 1.1.3.1.
 #![tactic(auto)]
 
+mod from_desk;
 mod joiner;
 mod laws;
 mod naming;
@@ -13,6 +14,7 @@ mod tests;
 mod tiling;
 mod writing;
 
+pub use from_desk::{JoinStop, joined_from};
 pub use joiner::Joiner;
 pub use laws::{heads_tell, joins_again, one_answer};
 pub use naming::name_of;
