@@ -9,3 +9,4 @@ pub mod Escapes
 pub mod Judged
 pub mod NewHints
 pub mod Utf8Scripts
+pub mod SlotLemmas

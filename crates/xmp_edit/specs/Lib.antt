@@ -7,3 +7,4 @@ pub mod Allowed
 pub mod Law
 pub mod Judging
 pub mod ScriptOf
+pub mod Slots

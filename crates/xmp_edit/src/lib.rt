@@ -8,6 +8,7 @@
 
 mod action;
 mod changing;
+mod drafts;
 mod edit;
 mod given;
 mod judging;
@@ -16,6 +17,7 @@ mod line;
 mod places;
 mod reading;
 mod script;
+mod slots;
 #[cfg(test)]
 mod tests;
 mod words;

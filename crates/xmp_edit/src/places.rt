@@ -3,12 +3,12 @@ ghost use Rattle.std.specs.Prelude.{◌≡◌, ◌&&◌, slice_get, None};
 ghost use Rattle.xmp_values.specs.Stops.{Gives, rule_of};
 ghost use Rattle.xmp_paths.specs.Paths.{is_end};
 ghost use Rattle.xmp_edit.specs.Actions.{change_of, makes};
-ghost use Rattle.xmp_edit.specs.Edits.{ok_map, at_place, stepped, in_members, member_at, with_member, in_items, in_tagged, item_at, with_item, in_props};
+ghost use Rattle.xmp_edit.specs.Edits.{ok_map, at_place, stepped, in_members, member_at, with_member, in_items, in_tagged, item_at, with_item};
 
 use crate::action::{Action, makes};
 use crate::changing::changed;
 use std::alloc::Global;
-use xmp_paths::{Path, Step};
+use xmp_paths::Step;
 use xmp_tree::{
     Items, Member, Members, Shape, Value, copy_name, is_front, join, place_of, refill, refill_item,
     tag_place, take_item, take_value,
@@ -35,7 +35,7 @@ pub fn at_place<'p>(
 }
 
 /// Whether no step is left.
-fn is_end(steps: &[Step]) -> bool
+pub fn is_end(steps: &[Step]) -> bool
     ensures { result ≡ is_end steps.now }
 {
     match steps {
@@ -223,16 +223,4 @@ fn item_made<'p>(alloc: Global, action: &Action, items: Items<'p>) -> Result<Ite
         }
         None => Ok(items),
     }
-}
-
-/// Properties after an edit at a path.
-pub fn in_props<'p>(
-    alloc: Global,
-    path: &Path,
-    action: &Action,
-    props: Members<'p>,
-) -> Result<Members<'p>, RuleStop>
-    ensures { Gives rule_of result (in_props path.now (change_of action.now) (makes action.now) props.entry) }
-{
-    in_members(alloc, path.steps(), action, false, path.name(), props)
 }

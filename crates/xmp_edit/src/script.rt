@@ -1,15 +1,15 @@
 //! Scripts: edits in their order.
 ghost use Rattle.std.specs.Prelude.{◌≡◌, Ok, IfOk};
-ghost use Rattle.xmp_values.specs.Stops.{Gives, rule_of, place_of};
+ghost use Rattle.xmp_values.specs.Stops.{Gives, place_of};
 ghost use Rattle.xmp_edit.specs.Allowed.{IsAllowed};
-ghost use Rattle.xmp_edit.specs.Scripts.{edited, edits_made};
+ghost use Rattle.xmp_edit.specs.Scripts.{edits_made};
 ghost use Rattle.xmp_edit.specs.ScriptOf.{lines_read, beginning, finished, script_of, word_of, one_set_of};
 ghost use Rattle.xmp_edit.specs.Lines.{lines_of};
 
 use crate::action::Action;
+use crate::drafts::Draft;
 use crate::edit::Edit;
 use crate::judging::edit_of;
-use crate::places::in_props;
 use crate::reading::{Reading, with_hints};
 use std::alloc::Global;
 use std::marker::Model;
@@ -118,27 +118,17 @@ pub fn one_set(alloc: Global, path: &[u8], value: &[u8], hints: &Hints) -> Resul
     }
 }
 
-/// The tree that an edit makes.
-fn edited<'p>(alloc: Global, tree: Tree<'p>, edit: &Edit) -> Result<Tree<'p>, RuleStop>
-    requires { IsAllowed edit.now }
-    ensures { Gives rule_of result (edited edit.now tree.entry) }
-{
-    let Tree { about, props } = tree;
-    let props = in_props(alloc, &edit.path, &edit.action, props)?;
-    Ok(Tree { about, props })
-}
-
 /// The tree that the edits make, one after the other; or the rule and the line's number of the first
 /// that is refused. Nothing of the tree is kept then.
 pub fn apply<'p>(t: Tree<'p>, s: &Script) -> Result<Tree<'p>, PlaceStop>
     ensures { Gives place_of result (edits_made s.now.edits t.entry) }
 {
-    let mut tree = t;
+    let mut draft = Draft::of(s.alloc, t)?;
     for edit in s.edits.as_slice() {
-        match edited(s.alloc, tree, edit) {
-            Ok(made) => tree = made,
+        match draft.edited(s.alloc, edit) {
+            Ok(made) => draft = made,
             Err(stop) => return Err(stop.at(edit.line)),
         }
     }
-    Ok(tree)
+    Ok(draft.into_tree(s.alloc)?)
 }
