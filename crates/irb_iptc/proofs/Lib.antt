@@ -7,3 +7,4 @@ pub mod Marked
 pub mod Pieces
 pub mod Runs
 pub mod Unique
+pub mod Values

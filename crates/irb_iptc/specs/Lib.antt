@@ -4,3 +4,4 @@ pub mod Reading
 pub mod Datasets
 pub mod Entries
 pub mod Digest
+pub mod Fields

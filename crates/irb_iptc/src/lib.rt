@@ -8,8 +8,10 @@
 
 mod block;
 mod datasets;
+mod dates;
 mod digest;
 mod entry;
+mod fields;
 mod head;
 mod list;
 mod reading;
@@ -19,6 +21,7 @@ mod tests;
 
 pub use datasets::Datasets;
 pub use digest::{digest_of, stored_digest_mut};
+pub use fields::iptc_fields;
 pub use list::Resources;
 pub use stops::IrbStop;
 pub use xmp_values::PlaceStop as IptcStop;
