@@ -1,7 +1,6 @@
 -- How a command ends that has changed no file, status by status.
 use Rattle.std.proofs.Common.{◌≡◌, ◌⊎◌, ℕ, ◌≤◌, List, [], ◌++◌, refl, sym, ap, ◌∙◌, arith, Ok, Err, Some, None, inl, inr, subst, append-nil}
 use Rattle.std.specs.declared.option.Option.{Option}
-use Rattle.std.specs.declared.result.Result.{Result}
 use Rattle.xmp_base.specs.Device.{DeskState, SinkState, Files, Rose, Told, SameFiles}
 use Rattle.xmp_base.specs.declared.device.Failed.{Failed}
 use Rattle.xmp_values.specs.declared.faults.Fault.{Fault}
@@ -12,26 +11,21 @@ use Rattle.xmp_cli.specs.Commands.{Command, Patch}
 use Rattle.xmp_cli.specs.Answer.{Change, puts, patches, Outcome, IsOutcome, refused, done, usage}
 use Rattle.xmp_cli.specs.Access.{MayWant}
 use Rattle.xmp_cli.specs.Left.{Left, AfterFailure, Patched}
-use Rattle.xmp_cli.specs.Run.{RunCall, Touches, IsAnswer, Answers, Untouched, Fails, EndsBy, Writes, Complete}
+use Rattle.xmp_cli.specs.Run.{RunCall, Touches, IsAnswer, Answers, Untouched, EndsBy, Writes, Complete}
 use Rattle.xmp_cli.specs.Sending.{SendAll, SentSome}
 use Rattle.xmp_cli.proofs.OneOutcome.{one_outcome}
 use Rattle.xmp_cli.proofs.Touching.{touches_none}
 
--- no command that edits is built
-writes_none : (command : Option Command) (files : Files) (t : DeskState) → Writes command files t
-writes_none None files t = tt
-writes_none (Some command) files t = λ kept edited plan plans. absurd plans
-
-patched_same : (command : Option Command) (files : Files) (s t : DeskState) → SameFiles s t → Patched command files s t
+pub patched_same : (command : Option Command) (files : Files) (s t : DeskState) → SameFiles s t → Patched command files s t
 patched_same (Some (Patch file script)) files s t same = inl same
 patched_same other files s t same = tt
 
-left_same : (files : Files) (change : Option Change) (s t : DeskState) → t.files ≡ Some files → Left files change s t
+pub left_same : (files : Files) (change : Option Change) (s t : DeskState) → t.files ≡ Some files → Left files change s t
 left_same files None s t same = same
 left_same files (Some (puts name bytes)) s t same = (files, same, inl refl)
 left_same files (Some (patches name at bytes)) s t same = tt
 
-sent_none : (o : SinkState) → Told o.sent (λ sent. o.sent ≡ Some (sent ++ []))
+pub sent_none : (o : SinkState) → Told o.sent (λ sent. o.sent ≡ Some (sent ++ []))
 sent_none o sent told = told ∙ ap (λ (l : List ℕ). Some l) (sym (append-nil sent))
 
 -- words that are no command
@@ -51,8 +45,8 @@ module _ (c : Command) (s t : DeskState) (o p : SinkState) (touches : Touches (S
   -- what all ends have in common
   ends_call : (status : Status) → (status ≡ Usage → ⊥) → o.faults ≤ p.faults → p.plan ≡ o.plan
       → Told s.files (λ files. IsAnswer status → (outcome : Outcome) × IsOutcome (Some c) files outcome × Answers files t o p status outcome)
-      → EndsBy (Some c) s t o p status → RunCall (Some c) s t o p status
-  ends_call status command sink plan told ends = record {
+      → EndsBy (Some c) s t o p status → (status ≡ Done → (files : Files) → Writes (Some c) files t) → RunCall (Some c) s t o p status
+  ends_call status command sink plan told ends writes = record {
     desk = touches;
     sink = sink;
     plan = plan;
@@ -60,13 +54,14 @@ module _ (c : Command) (s t : DeskState) (o p : SinkState) (touches : Touches (S
     told = told;
     ends = ends;
     patched = λ files e. patched_same (Some c) files s t same;
-    writes = λ files e is. writes_none (Some c) files t;
+    writes = λ files e is. writes is files;
   }
 
   -- a text was sent whole
-  pub done_call : (text : List ℕ) (unit : Unit {0}) → SendAll o p text (Ok unit) → Told s.files (λ files. IsOutcome (Some c) files (done text)) → RunCall (Some c) s t o p Done
-  done_call text unit send told = ends_call Done (λ e. cc) send.count send.plan
-      (λ files e a. (done text, told files e, record { same = refl; after = same.files ∙ e; sent = send.sent })) tt
+  pub done_call : (text : List ℕ) (unit : Unit {0}) → SendAll o p text (Ok unit) → Told s.files (λ files. IsOutcome (Some c) files (done text)) → ((files : Files) → Writes (Some c) files t)
+      → RunCall (Some c) s t o p Done
+  done_call text unit send told writes = ends_call Done (λ e. cc) send.count send.plan
+      (λ files e a. (done text, told files e, record { same = refl; after = same.files ∙ e; sent = send.sent })) tt (λ is. writes)
 
   part_of : (files : Files) (text : List ℕ) (outcome : Outcome) → t.files ≡ Some files → Rose s.faults t.faults ⊎ Rose o.faults p.faults → SentSome o p text
       → done text ≡ outcome → AfterFailure files outcome s t o p
@@ -79,6 +74,7 @@ module _ (c : Command) (s t : DeskState) (o p : SinkState) (touches : Touches (S
         rose = inr send.failed;
         after = λ files e outcome is. part_of files text outcome (same.files ∙ e) (inr send.failed) send.part (one_outcome (Some c) files (done text) outcome (told files e) is);
       })
+      (λ is. absurd (let bad : Device ≡ Done = is in cc))
 
 module _ (c : Command) (s t : DeskState) (o : SinkState) (touches : Touches (Some c) s t) (same : SameFiles s t) where
   untouched : Untouched s t o o
@@ -87,10 +83,11 @@ module _ (c : Command) (s t : DeskState) (o : SinkState) (touches : Touches (Som
   pub refused_call : (fault : Fault) → Told s.files (λ files. IsOutcome (Some c) files (refused fault)) → (fault.rule ≡ NoFile → Rose s.misses t.misses) → RunCall (Some c) s t o o (Refused fault)
   refused_call fault told missed = ends_call c s t o o touches same (Refused fault) (λ e. cc) (omega arith) refl
       (λ files e a. (refused fault, told files e, record { same = refl; after = same.files ∙ e; sent = sent_none o }))
-      (untouched, missed)
+      (untouched, missed) (λ is. absurd (let bad : Refused fault ≡ Done = is in cc))
 
   pub memory_call : Told s.files (MayWant (Some c)) → RunCall (Some c) s t o o Memory
   memory_call wanted = ends_call c s t o o touches same Memory (λ e. cc) (omega arith) refl (λ files e a. absurd a) (untouched, wanted)
+      (λ is. absurd (let bad : Memory ≡ Done = is in cc))
 
   pub device_call : Rose s.faults t.faults → RunCall (Some c) s t o o Device
   device_call rose = ends_call c s t o o touches same Device (λ e. cc) (omega arith) refl (λ files e a. absurd a)
@@ -102,6 +99,7 @@ module _ (c : Command) (s t : DeskState) (o : SinkState) (touches : Touches (Som
           order = inl (refl, rose);
         };
       })
+      (λ is. absurd (let bad : Device ≡ Done = is in cc))
 
 -- Where nothing was counted, the status is that of the one outcome, or memory was wanted.
 module _ (command : Option Command) (s t : DeskState) (o p : SinkState) where

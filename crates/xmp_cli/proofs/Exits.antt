@@ -1,5 +1,5 @@
 -- The exits of a command that shows a view of a file, from what its calls returned.
-use Rattle.std.proofs.Common.{◌≡◌, ◌⊎◌, ℕ, List, refl, sym, ap, ◌∙◌, Ok, Err, Some, None, inl, inr, subst, IsOk}
+use Rattle.std.proofs.Common.{◌≡◌, ◌⊎◌, ℕ, List, refl, sym, ap, Ok, Err, Some, inl, inr, subst, IsOk}
 use Rattle.std.specs.declared.option.Option.{Option}
 use Rattle.std.specs.declared.result.Result.{Result}
 use Rattle.std.specs.FinMap.{get}
@@ -27,9 +27,9 @@ use Rattle.xmp_cli.specs.declared.status.Status.{Status}
 use Rattle.xmp_cli.specs.declared.status.Status.TheVariants.{Done, Refused, Device, Memory}
 use Rattle.xmp_cli.specs.declared.views.View.{View}
 use Rattle.xmp_cli.specs.declared.views.View.TheVariants as views
-use Rattle.xmp_cli.specs.Answer.{Outcome, IsOutcome, IsShown, refused, done, shown, seen}
+use Rattle.xmp_cli.specs.Answer.{Outcome, IsOutcome, IsShown, refused, shown}
 use Rattle.xmp_cli.specs.Access.{MayRead, MayWant}
-use Rattle.xmp_cli.specs.Run.{RunCall, Refuses, Touches, SparesPictures, IsFileRefusal}
+use Rattle.xmp_cli.specs.Run.{RunCall, Refuses, Touches, SparesPictures, Writes, IsFileRefusal}
 use Rattle.xmp_cli.specs.Sending.{SendAll}
 use Rattle.xmp_cli.specs.Steps.{view_of, shows, Shows, IsViewed}
 use Rattle.xmp_cli.proofs.Ends.{done_call, failed_call, refused_call, memory_call, device_call}
@@ -59,11 +59,16 @@ may_want : (file : List ℕ) (view : View) (files : Files) → IsOk (kind_of_fil
 may_want file (views.Value path) files h = (tt, h)
 may_want file views.Tree files h = (tt, h)
 
-not_missing : (size : ℕ) (rule : Rule) (fault : Fault) → IsLoadRefusal size rule fault → rule ≡ NoFile → ⊥
+-- a view writes nothing
+writes_none : (file : List ℕ) (view : View) (files : Files) (t : DeskState) → Writes (Some (shows file view)) files t
+writes_none file (views.Value path) files t = λ kept edited plan plans. absurd plans
+writes_none file views.Tree files t = λ kept edited plan plans. absurd plans
+
+pub not_missing : (size : ℕ) (rule : Rule) (fault : Fault) → IsLoadRefusal size rule fault → rule ≡ NoFile → ⊥
 not_missing size rule fault h e = subst (λ (r : Rule). IsLoadRefusal size r fault) e h
 
 -- what was kept has a kind
-ok_kind : (by : Result Kind Fault) (bytes : List ℕ) (kept : Kept) → Followed by (IsKept Packet bytes) (Ok kept) → IsOk by
+pub ok_kind : (by : Result Kind Fault) (bytes : List ℕ) (kept : Kept) → Followed by (IsKept Packet bytes) (Ok kept) → IsOk by
 ok_kind (Ok kind) bytes kept h = refl
 ok_kind (Err fault) bytes kept h = absurd (let bad : Ok kept ≡ Err fault = h in cc)
 
@@ -144,7 +149,8 @@ module _ (file : List ℕ) (view : View) (s t : DeskState) (o : SinkState) (load
 
         pub view_sent : (unit : Unit {0}) → end ≡ Ok unit → Ended file view s t o p Done
         view_sent unit e = record {
-          call = done_call (shows file view) s t o p touches a.calls.same text unit (subst (SendAll o p text) e send) (shown_as (Ok text) by_view);
+          call = done_call (shows file view) s t o p touches a.calls.same text unit (subst (SendAll o p text) e send) (shown_as (Ok text) by_view)
+              (λ files. writes_none file view files t);
           refusals = λ fault e. cc;
         }
 

@@ -5,7 +5,6 @@ use Rattle.std.specs.declared.option.Option.{Option}
 use Rattle.std.specs.declared.result.Result.{Result}
 use Rattle.xmp_values.specs.declared.faults.Fault.{Fault}
 use Rattle.xmp_values.specs.declared.faults.Part.TheVariants.{Main}
-use Rattle.xmp_values.specs.declared.hints.Hint.{Hint}
 use Rattle.xmp_values.specs.declared.rules.Rule.{Rule}
 use Rattle.xmp_values.specs.declared.rules.Rule.TheVariants.{NoFile, Reserved, EditDeep}
 use Rattle.xmp_tree.specs.declared.nested.Member.{Member}
@@ -129,7 +128,7 @@ main_refuses size None fault lies opens = absurd (let bad : Err fault ≡ Ok no_
 main_refuses size (Some piece) fault lies opens =
     read_refuses size (packet_text piece.bytes) opens.0 fault (omega (arith, lies.0, text_short piece.bytes)) opens.1 opens.2
 
-joined_refuses : (size : ℕ) (kept : Kept) (main : Result Meaning Fault) (fault : Fault) → PayloadLies size kept.payload → OpensMain kept.payload main
+pub joined_refuses : (size : ℕ) (kept : Kept) (main : Result Meaning Fault) (fault : Fault) → PayloadLies size kept.payload → OpensMain kept.payload main
     → Followed main (IsJoined kept) (Err fault) → IsPacketRefusal size fault
 joined_refuses size kept (Ok meaning) fault lies opens is = absurd (let bad : Err fault ≡ Ok (record { meaning = meaning; joined = false }) = is in cc)
 joined_refuses size kept (Err f) fault lies opens is =

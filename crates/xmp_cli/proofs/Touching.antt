@@ -1,13 +1,20 @@
 -- What a command has done to the desk so far, step by step.
-use Rattle.std.proofs.Common.{◌≡◌, ℕ, List, [], ◌++◌, All, refl, sym, ap, ◌∙◌, arith, Some, None, subst, append-nil}
+use Rattle.std.proofs.Common.{◌≡◌, ℕ, List, [], ◌++◌, refl, sym, ap, ◌∙◌, arith, Some, subst, append-nil, append_assoc}
 use Rattle.std.specs.declared.option.Option.{Option}
 use Rattle.std.specs.declared.result.Result.{Result}
-use Rattle.std.proofs.lemmas.List.Elements.{All-nil, All-weaker}
-use Rattle.xmp_base.specs.Device.{DeskState, Moved, SameFiles, Told, NotFewer}
+use Rattle.std.proofs.lemmas.List.Elements.{All-append, All-nil, All-weaker}
+use Rattle.xmp_base.specs.Device.{DeskState, Moved, OthersKeep}
+use Rattle.xmp_base.specs.Whole.{ReadSome}
+use Rattle.xmp_base.specs.Windows.{IsInside}
+use Rattle.xmp_base.specs.declared.device.Failed.{Failed}
+use Rattle.xmp_base.proofs.Calls.{counts_trans}
 use Rattle.xmp_values.specs.declared.stops.FileStop.{FileStop}
 use Rattle.xmp_files.specs.declared.held.Need.TheVariants.{Packet}
 use Rattle.xmp_files.specs.Keeping.{Kept}
 use Rattle.xmp_files.specs.Loads.{LoadCall}
+use Rattle.xmp_files.specs.Planning.{Plan}
+use Rattle.xmp_files.specs.Plans.{planned_len}
+use Rattle.xmp_files.specs.Emitting.{EmitCall}
 use Rattle.xmp_files.specs.Sparing.{Spared}
 use Rattle.xmp_files.proofs.Loads.{spared_none}
 use Rattle.xmp_cli.specs.Commands.{Command, Get, Tree, Patch}
@@ -45,4 +52,47 @@ touches_load command s t file result may spares a = record {
   others = λ name read write. a.others name (λ e. read (subst (MayRead command) (sym e) may));
   kept = λ files told. (files, a.calls.same.files ∙ told, λ name no. refl);
   spared = spares a.spared;
+}
+
+moved_trans : (May : List ℕ → Type 0) (a b c : Option (List Moved)) → MovesOf May a b → MovesOf May b c → MovesOf May a c
+moved_trans May a b c p q moves told =
+    let m = p moves told in let n = q (moves ++ m.0) m.1 in
+    (m.0 ++ n.0, n.1 ∙ ap Some (append_assoc moves m.0 n.0), All-append (λ (x : Moved). May x.0) m.0 n.0 m.2 n.2)
+
+-- one step after another
+pub touches_trans : (command : Option Command) (s t u : DeskState) → SparesPictures command s u → Touches command s t → Touches command t u → Touches command s u
+touches_trans command s t u spares a b = record {
+  counts = counts_trans s t u a.counts b.counts;
+  reads = moved_trans (MayRead command) s.reads t.reads u.reads a.reads b.reads;
+  wrote = moved_trans (MayWrite command) s.wrote t.wrote u.wrote a.wrote b.wrote;
+  others = λ name read write. b.others name read write ∙ a.others name read write;
+  kept = λ files told. let m = a.kept files told in let n = b.kept m.0 m.1 in (n.0, n.1, λ name no. n.2 name no ∙ m.2 name no);
+  spared = spares;
+}
+
+-- SCRIPT was read
+pub touches_read : (command : Option Command) (s t : DeskState) (script : List ℕ) → MayRead command script → SparesPictures command s t
+    → ReadSome s t script → OthersKeep s.lens t.lens script → Touches command s t
+touches_read command s t script may spares a others = record {
+  counts = a.counts;
+  reads = λ reads told. let m = a.reads reads told in
+      (m.0, m.1, All-weaker (λ (x : Moved). x.0 ≡ script) (λ (x : Moved). MayRead command x.0) (λ (x : Moved) e. subst (MayRead command) (sym e) may) m.0 m.2);
+  wrote = moved_none (MayWrite command) s.wrote t.wrote a.same.wrote;
+  others = λ name read write. others name (λ e. read (subst (MayRead command) (sym e) may));
+  kept = λ files told. (files, a.same.files ∙ told, λ name no. refl);
+  spared = spares;
+}
+
+-- OUT was written
+pub touches_emit : (command : Option Command) (s t : DeskState) (plan : Plan) (size : ℕ) (file out : List ℕ) (result : Result (Unit {0}) Failed) → MayRead command file → MayWrite command out
+    → SparesPictures command s t → EmitCall s t plan size file out result → Touches command s t
+touches_emit command s t plan size file out result may_read may_write spares a = record {
+  counts = a.counts;
+  reads = λ reads told. let m = a.reads reads told in
+      (m.0, m.1, All-weaker (λ (x : Moved). x.0 ≡ file) (λ (x : Moved). MayRead command x.0) (λ (x : Moved) e. subst (MayRead command) (sym e) may_read) m.0 m.2);
+  wrote = λ wrote told. let m = a.wrote wrote told in
+      (m.0, m.1, All-weaker (IsInside out 0 (planned_len size plan)) (λ (x : Moved). MayWrite command x.0) (λ (x : Moved) i. subst (MayWrite command) (sym i.of_name) may_write) m.0 m.2);
+  others = λ name read write. a.others name (λ e. write (subst (MayWrite command) (sym e) may_write));
+  kept = λ files told. let m = a.told files told in (m.0, m.1, λ name no. m.2 name (λ e. no (subst (MayWrite command) (sym e) may_write)));
+  spared = spares;
 }

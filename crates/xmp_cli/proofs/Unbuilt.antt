@@ -1,5 +1,5 @@
 -- The commands that aren't built yet, which are refused before anything is read.
-use Rattle.std.proofs.Common.{◌≡◌, refl, sym, ap, ◌∙◌, Some, None, subst}
+use Rattle.std.proofs.Common.{◌≡◌, refl, sym, ap, ◌∙◌, Some, subst}
 use Rattle.std.specs.Option.{option_map}
 use Rattle.std.specs.declared.option.Option.{Option}
 use Rattle.xmp_base.specs.Device.{DeskState, SinkState, Files}
@@ -7,7 +7,7 @@ use Rattle.xmp_values.specs.declared.faults.Fault.{Fault}
 use Rattle.xmp_values.specs.declared.rules.Rule.TheVariants.{NoFile, NotBuilt}
 use Rattle.xmp_files.specs.Faults.{not_built}
 use Rattle.xmp_cli.specs.declared.status.Status.TheVariants.{Refused}
-use Rattle.xmp_cli.specs.Commands.{Command, Get, Tree}
+use Rattle.xmp_cli.specs.Commands.{Command, Get, Tree, Set, Apply}
 use Rattle.xmp_cli.specs.declared.commands.Command.{Command as Parsed}
 use Rattle.xmp_cli.specs.Meant.{meant}
 use Rattle.xmp_cli.specs.Answer.{IsOutcome, refused}
@@ -20,11 +20,15 @@ use Rattle.xmp_cli.proofs.Touching.{touches_none}
 is_refused : (command : Command) → (IsBuilt command → ⊥) → (files : Files) → IsOutcome (Some command) files (refused not_built)
 is_refused (Get file path) h files = absurd (h tt)
 is_refused (Tree file) h files = absurd (h tt)
+is_refused (Set file out path value) h files = absurd (h tt)
+is_refused (Apply file out script) h files = absurd (h tt)
 is_refused other h files = refl
 
 has_refusal : (command : Command) (t : DeskState) → (IsBuilt command → ⊥) → IsRefusal (Some command) t not_built
 has_refusal (Get file path) t h = absurd (h tt)
 has_refusal (Tree file) t h = absurd (h tt)
+has_refusal (Set file out path value) t h = absurd (h tt)
+has_refusal (Apply file out script) t h = absurd (h tt)
 has_refusal other t h = refl
 
 -- a run of one

@@ -1,5 +1,5 @@
 -- What a command may do, by its words alone.
-use Rattle.std.specs.Prelude.{◌≡◌, ◌⊎◌, ℕ, List, [], IsOk, Option, None, Some}
+use Rattle.std.specs.Prelude.{◌≡◌, ◌⊎◌, ℕ, List, IsOk, Option, None, Some}
 use Rattle.std.specs.FinMap.{get}
 use Rattle.xmp_base.specs.Device.{Files}
 use Rattle.xmp_files.specs.Loading.{kind_of_file}
@@ -46,6 +46,8 @@ MayWrite (Some command) name = written_of command ≡ Some name
 abbrev pub IsBuilt : Command → Type 0
 IsBuilt (Get file path) = Unit {0}
 IsBuilt (Tree file) = Unit {0}
+IsBuilt (Set file out path value) = Unit {0}
+IsBuilt (Apply file out script) = Unit {0}
 IsBuilt other = ⊥
 
 -- FILE passes the steps before memory is wanted: it is there, within the limit of a file, and of a kind.

@@ -8,7 +8,6 @@ use Rattle.xmp_files.specs.Opening.{HoldsTree, IsWhole}
 use Rattle.xmp_files.specs.Planning.{Edited, Plan, Agree, Frame, Apart, NoStray}
 use Rattle.xmp_cli.specs.Commands.{Command, Patch}
 use Rattle.xmp_cli.specs.Answer.{Change, puts, patches, Outcome, Plans, changed}
-use Rattle.xmp_cli.specs.Access.{file_of, written_of}
 use Rattle.xmp_cli.specs.Sending.{SentSome}
 
 -- the most bytes of a piece that is written
@@ -26,7 +25,7 @@ Left files None s t = t.files ≡ Some files
 Left files (Some (puts name bytes)) s t = (now : Files) × (t.files ≡ Some now) × LeftFile s t (get files name) (get now name) bytes
 Left files (Some (patches name at bytes)) s t = Unit {0}
 
--- After a failure of a device some first bytes of the text were sent. The text comes behind the change: nothing was sent and the
+-- After a failure of a device some first bytes of the text were sent. The text comes after the change: nothing was sent and the
 -- desk failed, or the change is whole.
 pub record AfterFailure (files : Files) (outcome : Outcome) (s t : DeskState) (o p : SinkState) : Type 0 where
   pub part : SentSome o p outcome.text

@@ -26,7 +26,7 @@ pub fn line_of(status: Status) -> Line
     }
 }
 
-fn line_from(text: &str) -> Line
+pub fn line_from(text: &str) -> Line
     requires { length text.now ≤ 256 }
     ensures bytes { result.bytes ≡ text.now }
     ensures len { array_string_len result ≡ length text.now }
@@ -51,7 +51,7 @@ fn refused_line(fault: Fault) -> Line
 }
 
 /// A space and a number in decimal.
-fn push_number(line: &mut Line, number: u64)
+pub fn push_number(line: &mut Line, number: u64)
     requires { array_string_len line.old + 41 ≤ 256 }
     ensures bytes { line.new.bytes ≡ line.old.bytes ++ codes " " ++ decimal number }
     ensures len { array_string_len line.new ≤ array_string_len line.old + 41 }

@@ -3,15 +3,16 @@ ghost use Rattle.std.specs.Prelude.{Some};
 ghost use Rattle.xmp_cli.specs.Steps.{shows, view_of, IsViewed};
 ghost use Rattle.xmp_cli.specs.Run.{RunCall, Refuses};
 
-use crate::shown::Shown;
+use crate::sending::send;
 use crate::status::Status;
 use crate::views::{View, text_of};
 use std::alloc::Global;
 use xmp_base::{Desk, Failed, Sink};
 use xmp_files::{Held, LoadStop, Need, OpenStop, load, no_file, read_file};
+use xmp_values::Bytes;
 
 /// What a view shows of what is held of a file.
-fn view_text<'h>(alloc: Global, held: &'h Held, view: View<'_>) -> Result<Shown<'h>, OpenStop>
+fn view_text(alloc: Global, held: &Held, view: View<'_>) -> Result<Bytes, OpenStop>
     ensures { IsViewed (view_of view.entry) result held.now }
 {
     let opened = read_file(alloc, held)?;
@@ -37,7 +38,7 @@ pub fn show<D: Desk, O: Sink>(
         Err(LoadStop::Memory) => return Status::Memory,
     };
     match view_text(alloc, &held, view) {
-        Ok(text) => match text.send(out) {
+        Ok(text) => match send(out, text.as_slice()) {
             Ok(()) => Status::Done,
             Err(Failed) => Status::Device,
         },

@@ -1,5 +1,5 @@
 //! What a command shows of a file's meaning: the value at a path, or the lines of the tree.
-ghost use Rattle.std.specs.Prelude.{◌≡◌, IfOk};
+ghost use Rattle.std.specs.Prelude.{◌≡◌, ◌++◌, codes, IfOk};
 ghost use Rattle.std.specs.Option.{option_copied};
 ghost use Rattle.xmp_write.specs.Prefixes.{prefixes};
 ghost use Rattle.xmp_write.specs.ValueLines.{lines_at};
@@ -8,7 +8,6 @@ ghost use Rattle.xmp_cli.specs.Steps.{view_of};
 ghost use Rattle.xmp_values.specs.Stops.{fault_of, Gives};
 
 use crate::faults::{no_such_place, path_fault};
-use crate::shown::Shown;
 use std::alloc::Global;
 use xmp_paths::{Path, PathStop, find};
 use xmp_rdf::Meaning;
@@ -26,22 +25,18 @@ pub enum View<'w> {
 }
 
 /// What a view shows of a meaning.
-pub fn text_of<'p>(
-    alloc: Global,
-    meaning: &Meaning<'p>,
-    view: View<'_>,
-) -> Result<Shown<'p>, FaultStop>
+pub fn text_of(alloc: Global, meaning: &Meaning<'_>, view: View<'_>) -> Result<Bytes, FaultStop>
     ensures { Gives fault_of result (view_of view.entry meaning.now) }
 {
     match view {
         View::Value(path) => value_at(alloc, meaning, path),
-        View::Tree => Ok(Shown::lines(tree_lines(alloc, meaning)?)),
+        View::Tree => Ok(tree_lines(alloc, meaning)?),
     }
 }
 
 /// The value at a path.
 #[tactic(auto, unfolding(crate::specs::Order::get_text))]
-fn value_at<'p>(alloc: Global, meaning: &Meaning<'p>, path: &str) -> Result<Shown<'p>, FaultStop>
+fn value_at(alloc: Global, meaning: &Meaning<'_>, path: &str) -> Result<Bytes, FaultStop>
     ensures { Gives fault_of result (get_text path.now meaning.now) }
 {
     let path = match Path::read(alloc, path.as_bytes(), &meaning.hints) {
@@ -58,28 +53,33 @@ fn value_text<'p>(
     meaning: &Meaning<'p>,
     path: &Path,
     value: Option<&Value<'p>>,
-) -> Result<Shown<'p>, FaultStop>
+) -> Result<Bytes, FaultStop>
     ensures { Gives fault_of result (value_text meaning.now path.now (option_copied value.entry)) }
 {
     let Some(value) = value else {
         return Err(FaultStop::Fault(no_such_place()));
     };
     match &value.shape {
-        Shape::Simple(text) | Shape::Uri(text) => Ok(Shown::value(text.again(alloc)?)),
-        Shape::Struct(_) | Shape::Array(_, _) => shown_lines(alloc, meaning, path),
+        Shape::Simple(text) | Shape::Uri(text) => Ok(text_line(alloc, text.bytes())?),
+        Shape::Struct(_) | Shape::Array(_, _) => place_text(alloc, meaning, path),
     }
 }
 
+/// A text and LF, which are sent as one.
+fn text_line(alloc: Global, text: &[u8]) -> Result<Bytes, Memory>
+    ensures { IfOk result (λ line. line ≡ text.now ++ codes "\n") }
+{
+    let mut line = Vec::with_capacity(alloc, text.len() + 1)?;
+    line.extend_from_slice(text)?;
+    line.push(b'\n')?;
+    Ok(Bytes::from_vec(line))
+}
+
 /// The lines of what stands at a path.
-fn shown_lines<'p>(
-    alloc: Global,
-    meaning: &Meaning<'_>,
-    path: &Path,
-) -> Result<Shown<'p>, FaultStop>
+fn place_text(alloc: Global, meaning: &Meaning<'_>, path: &Path) -> Result<Bytes, FaultStop>
     ensures { Gives fault_of result (place_text meaning.now path.now) }
 {
-    let lines = place_lines(alloc, &meaning.tree, &meaning.hints, path)?;
-    Ok(Shown::lines(lines))
+    Ok(place_lines(alloc, &meaning.tree, &meaning.hints, path)?)
 }
 
 /// The lines of what stands at a path of a tree.

@@ -16,8 +16,6 @@ fn ends(alloc: Global, words: &str, line: &str) -> Result<bool, Memory> {
 #[test]
 fn commands_that_are_not_built_are_refused(rt: HostRuntime) -> Result<(), Fail> {
     for words in [
-        "set a.xmp b.xmp dc:format x",
-        "apply a.xmp b.xmp script",
         "patch a.xmp script",
         "reconcile a.xmp b.xmp",
         "check none.xmp",

@@ -1,8 +1,9 @@
-use Rattle.std.proofs.Common.{ℕ, List, Err, ap, sym, ◌∙◌}
+use Rattle.std.proofs.Common.{ℕ, List, Err, ap, sym, subst, ◌∙◌}
 use Rattle.std.specs.declared.result.Result.{Result}
 use Rattle.xmp_files.specs.Keeping.{Kept}
 use Rattle.xmp_values.specs.declared.stops.FileStop.{FileStop}
 use Rattle.xmp_values.specs.declared.stops.FaultStop.{FaultStop}
+use Rattle.xmp_cli.specs.Sending.{SendAll}
 use Rattle.xmp_cli.proofs.Exits.{absent, load_refused, load_failed, load_wants, view_wants, view_refused, view_sent, view_failed}
 use Rattle.xmp_cli.proofs.showing.show.Goals as goal
 
@@ -39,13 +40,15 @@ returns-in-Err-Memory g c =
 pub returns-in-Ok-send : goal.returns-in-Ok-send
 returns-in-Ok-send g c =
     let end = view_sent c.args.file.now c.args.view (g.D.Desk.state c.args.desk.now) (g.D.Desk.state c.load.new.desk) (g.O.Sink.state c.args.out.now) c.load.result c.load.ensures.call c.in-Ok.held c.in-Ok.is
-    c.view_text.result c.view_text.ensures (g.O.Sink.state c.send.new.out) c.in-Ok-view_text.text c.in-Ok-view_text.is c.send.result c.send.ensures.call c.in-Ok-send.field-0 c.in-Ok-send.is in
+    c.view_text.result c.view_text.ensures (g.O.Sink.state c.send.new.out) c.in-Ok-view_text.text c.in-Ok-view_text.is c.send.result
+    (subst (λ (l : List ℕ). SendAll (g.O.Sink.state c.args.out.now) (g.O.Sink.state c.send.new.out) l c.send.result) c.as_slice.ensures c.send.ensures.call) c.in-Ok-send.field-0 c.in-Ok-send.is in
     record { call = end.call; refuses = end.refusals }
 
 pub returns-in-Ok-view_text : goal.returns-in-Ok-view_text
 returns-in-Ok-view_text g c =
     let end = view_failed c.args.file.now c.args.view (g.D.Desk.state c.args.desk.now) (g.D.Desk.state c.load.new.desk) (g.O.Sink.state c.args.out.now) c.load.result c.load.ensures.call c.in-Ok.held c.in-Ok.is
-    c.view_text.result c.view_text.ensures (g.O.Sink.state c.send.new.out) c.in-Ok-view_text.text c.in-Ok-view_text.is c.send.result c.send.ensures.call c.in-Err.field-0 c.in-Err.is in
+    c.view_text.result c.view_text.ensures (g.O.Sink.state c.send.new.out) c.in-Ok-view_text.text c.in-Ok-view_text.is c.send.result
+    (subst (λ (l : List ℕ). SendAll (g.O.Sink.state c.args.out.now) (g.O.Sink.state c.send.new.out) l c.send.result) c.as_slice.ensures c.send.ensures.call) c.in-Err.field-0 c.in-Err.is in
     record { call = end.call; refuses = end.refusals }
 
 pub returns-in-Err-Fault-view_text : goal.returns-in-Err-Fault-view_text

@@ -1,0 +1,116 @@
+//! The edits of `set` and `apply`: from the words and SCRIPT to the plan for a file.
+ghost use Rattle.std.specs.Prelude.{◌≡◌};
+ghost use Rattle.xmp_values.specs.Stops.{place_of, Gives};
+ghost use Rattle.xmp_edit.specs.Scripts.{edits_made};
+ghost use Rattle.xmp_cli.specs.Edits.{edits_from, part_of};
+ghost use Rattle.xmp_cli.specs.EditSteps.{source, TextCall, FromText, PlanCall};
+
+use crate::faults::{no_script, over_script};
+use std::alloc::Global;
+use xmp_base::{Desk, ReadStop, read_all};
+use xmp_edit::{Script, apply, one_set};
+use xmp_files::{Held, Opened, Planned, plan};
+use xmp_rdf::Meaning;
+use xmp_tree::{Tree, copy};
+use xmp_values::{Bytes, FaultStop, FileStop, Part, PlaceStop};
+
+/// What is edited.
+#[derive(Clone, Copy, Debug, PartialEq, Eq)]
+pub enum Edits<'w> {
+    /// The text at a path becomes this value.
+    Set { path: &'w str, value: &'w str },
+    /// The lines of SCRIPT.
+    Script(&'w str),
+}
+
+/// The most bytes of SCRIPT.
+pub const SCRIPT_LIMIT: u64 = 1 << 20;
+
+/// The text of SCRIPT, none for `set`. Changes no file.
+fn script_text<D: Desk>(alloc: Global, desk: &mut D, edits: Edits<'_>) -> Result<Bytes, FileStop>
+    ensures call { TextCall (source edits.entry) (D.state desk.old) (D.state desk.new) result }
+{
+    match edits {
+        Edits::Set { .. } => Ok(Bytes::new(alloc)),
+        Edits::Script(name) => match read_all(alloc, desk, name, SCRIPT_LIMIT) {
+            Ok(bytes) => Ok(bytes),
+            Err(ReadStop::Absent) => Err(FileStop::Fault(no_script())),
+            Err(ReadStop::TooLarge(size)) => Err(FileStop::Fault(over_script(size))),
+            Err(ReadStop::Device) => Err(FileStop::Device),
+            Err(ReadStop::Memory) => Err(FileStop::Memory),
+        },
+    }
+}
+
+/// The part of the work in which the places of edits are counted.
+fn part_of(edits: Edits<'_>) -> Part
+    ensures { result ≡ part_of (source edits.entry) }
+{
+    match edits {
+        Edits::Set { .. } => Part::Words,
+        Edits::Script(_) => Part::Script,
+    }
+}
+
+/// The script of the words, or that of SCRIPT's text.
+fn script_of(
+    alloc: Global,
+    text: &[u8],
+    meaning: &Meaning<'_>,
+    edits: Edits<'_>,
+) -> Result<Script, PlaceStop>
+    ensures { Gives place_of result (edits_from (source edits.entry) text.now meaning.now.hints) }
+{
+    match edits {
+        Edits::Set { path, value } => {
+            one_set(alloc, path.as_bytes(), value.as_bytes(), &meaning.hints)
+        }
+        Edits::Script(_) => Script::read(alloc, text, &meaning.hints),
+    }
+}
+
+/// The tree that a script makes of a file's, which stays.
+fn edited<'p>(alloc: Global, meaning: &Meaning<'p>, script: &Script) -> Result<Tree<'p>, PlaceStop>
+    ensures { Gives place_of result (edits_made script.now.edits meaning.now.tree) }
+{
+    let copied = copy(alloc, &meaning.tree)?;
+    apply(copied, script)
+}
+
+/// The plan for a file after the edits of a text of SCRIPT.
+fn plan_of_text(
+    alloc: Global,
+    held: &Held,
+    opened: &Opened<'_>,
+    text: &[u8],
+    edits: Edits<'_>,
+) -> Result<Planned, FaultStop>
+    ensures { FromText (source edits.entry) text.now held.now opened.now result }
+{
+    let part = part_of(edits);
+    let script = match script_of(alloc, text, &opened.meaning, edits) {
+        Ok(script) => script,
+        Err(stop) => return Err(stop.within(part)),
+    };
+    match edited(alloc, &opened.meaning, &script) {
+        Ok(tree) => plan(alloc, held, opened, &tree, script.hints(), false),
+        Err(stop) => Err(stop.within(part)),
+    }
+}
+
+/// The plan for a file that was opened, after the edits. Changes no file, and reads SCRIPT alone.
+pub fn plan_of<D: Desk>(
+    alloc: Global,
+    desk: &mut D,
+    held: &Held,
+    opened: &Opened<'_>,
+    edits: Edits<'_>,
+) -> Result<Planned, FileStop>
+    ensures call { PlanCall (source edits.entry) (D.state desk.old) (D.state desk.new) held.now opened.now result }
+{
+    let text = script_text(alloc, desk, edits)?;
+    match plan_of_text(alloc, held, opened, text.as_slice(), edits) {
+        Ok(planned) => Ok(planned),
+        Err(stop) => Err(FileStop::from(stop)),
+    }
+}
