@@ -9,6 +9,8 @@ mod block;
 mod dates;
 mod properties;
 mod raw;
+#[cfg(test)]
+mod tests;
 mod texts;
 
 pub use block::{Entry, raw_of};

@@ -7,6 +7,8 @@
 #![tactic(auto)]
 
 mod dates;
+#[cfg(test)]
+mod tests;
 mod texts;
 mod zones;
 
