@@ -7,11 +7,13 @@
 #![tactic(auto)]
 
 mod dates;
+mod laws;
 #[cfg(test)]
 mod tests;
 mod texts;
 mod zones;
 
 pub use dates::{date_exists, date_text, offset_text, time_exists, time_text};
+pub use laws::texts_are_chars;
 pub use texts::field_text;
 pub use zones::{date_stays, zone_of};
