@@ -159,7 +159,7 @@ module _ (file out : List ℕ) (edits : Edits) (s t : DeskState) (o : SinkState)
       call = refused_call (command_of file out edits) s t o touches a.calls.same fault
           (λ files e. is_outcome file out edits files (refused fault) (Err fault, (Ok kept, loaded files e, (Err fault, opens, refl)), refl)) (λ rule. absurd (opened_there kept fault opens rule));
       refusals = refuses (Some (command_of file out edits)) t fault
-          (of_file file out edits t fault (inr (inr (joined_refuses (len_of t file) kept opens.0 fault lies opens.1 opens.2))));
+          (of_file file out edits t fault (joined_refuses (len_of t file) kept opens.0 fault lies opens.1 opens.2));
     }
 
     -- the packet is refused

@@ -13,6 +13,7 @@ use Rattle.xmp_values.specs.declared.stops.FaultStop.{FaultStop}
 use Rattle.xmp_values.specs.declared.stops.FaultStop.TheVariants as stop
 use Rattle.xmp_values.specs.declared.stops.FileStop.{FileStop}
 use Rattle.xmp_values.specs.declared.stops.FileStop.TheVariants as load_stop
+use Rattle.jpeg_regions.specs.Jpeg.{FaultIn, no_tail, bad_marker, bad_length, truncated, two_packets}
 use Rattle.xmp_files.specs.declared.kinds.Kind.{Kind}
 use Rattle.xmp_files.specs.declared.held.Need.TheVariants.{Packet}
 use Rattle.xmp_files.specs.declared.opening.Opened.{Opened}
@@ -64,8 +65,15 @@ writes_none : (file : List ℕ) (view : View) (files : Files) (t : DeskState) �
 writes_none file (views.Value path) files t = λ kept edited plan plans. absurd plans
 writes_none file views.Tree files t = λ kept edited plan plans. absurd plans
 
+fault_there : (size place : ℕ) (rule : Rule) → FaultIn size place rule → rule ≡ NoFile → ⊥
+fault_there size place rule (no_tail h) = λ e. cc e
+fault_there size place rule (bad_marker h) = λ e. cc e
+fault_there size place rule (bad_length h) = λ e. cc e
+fault_there size place rule (truncated h) = λ e. cc e
+fault_there size place rule (two_packets h) = λ e. cc e
+
 pub not_missing : (size : ℕ) (rule : Rule) (fault : Fault) → IsLoadRefusal size rule fault → rule ≡ NoFile → ⊥
-not_missing size rule fault h e = subst (λ (r : Rule). IsLoadRefusal size r fault) e h
+not_missing size rule fault h e = let none : IsLoadRefusal size NoFile fault = subst (λ (r : Rule). IsLoadRefusal size r fault) e h in fault_there size fault.place.at NoFile none.0 refl
 
 -- what was kept has a kind
 pub ok_kind : (by : Result Kind Fault) (bytes : List ℕ) (kept : Kept) → Followed by (IsKept Packet bytes) (Ok kept) → IsOk by

@@ -22,9 +22,10 @@ use Rattle.xmp_base.specs.Device.{DeskState, len_of}
 use Rattle.xmp_values.specs.Stops.{fault_at}
 use Rattle.xmp_files.specs.declared.opening.Opened.{Opened}
 use Rattle.xmp_files.specs.Stages.{followed, Followed}
-use Rattle.xmp_files.specs.Keeping.{Piece, Kept}
-use Rattle.xmp_files.specs.Loads.{PayloadLies}
-use Rattle.xmp_files.specs.Opening.{Means, OpensMain, IsJoined, IsOpened, in_main, no_meaning}
+use Rattle.xmp_files.specs.Faults.{not_built}
+use Rattle.xmp_files.specs.Keeping.{Piece, Container, Text, Segments, Kept}
+use Rattle.xmp_files.specs.Loads.{PayloadLies, IsLoadRefusal}
+use Rattle.xmp_files.specs.Opening.{Means, OpensMain, IsJoined, IsOpened, joined_in, in_main, no_meaning}
 use Rattle.xmp_files.proofs.NeverMissing.{opened_there}
 use Rattle.xmp_cli.specs.Answer.{seen}
 use Rattle.xmp_cli.specs.declared.status.Status.TheVariants.{Refused}
@@ -128,11 +129,18 @@ main_refuses size None fault lies opens = absurd (let bad : Err fault ≡ Ok no_
 main_refuses size (Some piece) fault lies opens =
     read_refuses size (packet_text piece.bytes) opens.0 fault (omega (arith, lies.0, text_short piece.bytes)) opens.1 opens.2
 
+-- a note of a JPEG file is refused
+in_refuses : (size : ℕ) (c : Container) (m : Meaning) (note : Option (List ℕ)) (fault : Fault) → (let e : Result Opened Fault = Err fault in e) ≡ joined_in c m note → IsFileRefusal size fault
+in_refuses size Text m note fault is = absurd (cc is)
+in_refuses size (Segments regions) m None fault is = absurd (cc is)
+in_refuses size (Segments regions) m (Some name) fault is =
+    let same : fault ≡ not_built = cc is in inr (inl (subst (λ (f : Fault). IsLoadRefusal size f.rule f) (sym same) refl))
+
 pub joined_refuses : (size : ℕ) (kept : Kept) (main : Result Meaning Fault) (fault : Fault) → PayloadLies size kept.payload → OpensMain kept.payload main
-    → Followed main (IsJoined kept) (Err fault) → IsPacketRefusal size fault
-joined_refuses size kept (Ok meaning) fault lies opens is = absurd (let bad : Err fault ≡ Ok (record { meaning = meaning; joined = false }) = is in cc)
+    → Followed main (IsJoined kept) (Err fault) → IsFileRefusal size fault
+joined_refuses size kept (Ok meaning) fault lies opens is = in_refuses size kept.container meaning meaning.note fault is
 joined_refuses size kept (Err f) fault lies opens is =
-    main_refuses size kept.payload fault lies (subst (λ (g : Fault). OpensMain kept.payload (Err g)) (sym (opened_error fault f is)) opens)
+    inr (inr (main_refuses size kept.payload fault lies (subst (λ (g : Fault). OpensMain kept.payload (Err g)) (sym (opened_error fault f is)) opens)))
   where
     opened_error : (f g : Fault) → (let r : Result Opened Fault = Err f in r) ≡ Err g → f ≡ g
     opened_error f g e = cc
@@ -144,4 +152,4 @@ step_refuses file view t kept (Ok opened) fault lies opens e = view_refuses file
 step_refuses file view t kept (Err f) fault lies opens e =
     let same : f ≡ fault = same_error f fault e in
     let is = subst (λ (g : Fault). IsOpened kept (Err g)) same opens in
-    (file_refuses file view t fault (inr (inr (joined_refuses (len_of t file) kept is.0 fault lies is.1 is.2))), opened_there kept fault is)
+    (file_refuses file view t fault (joined_refuses (len_of t file) kept is.0 fault lies is.1 is.2), opened_there kept fault is)

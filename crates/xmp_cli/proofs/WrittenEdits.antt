@@ -24,7 +24,7 @@ use Rattle.xmp_files.specs.Planning.{Edited, Plan, Frame, planned_file}
 use Rattle.xmp_files.specs.Plans.{IsPlanned, whole_form}
 use Rattle.xmp_files.proofs.OneStep.{one_loaded, one_opened}
 use Rattle.xmp_files.proofs.OnePlan.{one_planned}
-use Rattle.xmp_files.proofs.LoadedKept.{loaded_sidecar}
+use Rattle.xmp_files.proofs.LoadedKept.{planned_sidecar}
 use Rattle.xmp_files.proofs.Writes.{sidecar_written}
 use Rattle.xmp_cli.specs.Answer.{PlansFor}
 use Rattle.xmp_cli.specs.Edits.{Source, text_of, edits_from, part_of, in_part, with_tree, made, edited_from, edited_of}
@@ -89,14 +89,14 @@ module _ (source : Source) (file : List ℕ) (files : Files) (kept : Kept) (open
     old = bytes_of files file
 
     k_is : k ≡ sidecar Packet (bytes_of files file)
-    k_is = (loaded_sidecar Packet (get files file) k x.loaded).is
+    k_is = (planned_sidecar Packet (get files file) k x.opened.joined false e n x.loaded x.planned).is
 
     holds : HoldsTree (Some (bytes_of files file)) e.old
     holds = subst (λ (f : Option (List ℕ)). HoldsTree f e.old) (there (get files file) k x.loaded) (x.opened, (Ok k, x.loaded, x.opens), sym (edited_old source files x.opened.meaning e x.edits))
 
     good : HoldsTree (Some (planned_file (bytes_of files file) n)) e.new × Frame (sidecar Packet (bytes_of files file)) n (bytes_of files file) (planned_file (bytes_of files file) n)
     good = sidecar_written Packet (bytes_of files file) x.opened.joined false e n (subst (λ (y : Kept). IsPlanned y x.opened.joined false e (Ok n)) k_is x.planned) holds
-        (loaded_sidecar Packet (get files file) k x.loaded).short may
+        (planned_sidecar Packet (get files file) k x.opened.joined false e n x.loaded x.planned).short may
 
     framed : (before after : List ℕ) → bytes_of files file ≡ before → planned_file (bytes_of files file) n ≡ after → Frame k n before after
     framed before after b a =

@@ -1,5 +1,5 @@
 -- A new file is written piece by piece.
-use Rattle.std.proofs.Common.{◌≡◌, ℕ, ◌+◌, ◌≤◌, List, [], ◌++◌, length, take, drop, refl, sym, ap, ◌∙◌, subst, arith, Ok, Err, Some, IsTrue, inl, inr, Result, IsErr, is_some}
+use Rattle.std.proofs.Common.{◌≡◌, ℕ, ◌+◌, ◌≤◌, Bool, List, [], ◌++◌, length, take, drop, refl, sym, ap, ◌∙◌, subst, arith, Ok, Err, Some, IsTrue, inl, inr, Result, IsErr, is_some}
 use Rattle.std.specs.declared.option.Option.{Option}
 use Rattle.std.specs.Option.{option_map}
 use Rattle.std.specs.Prelude.{MatchResult}
@@ -13,10 +13,11 @@ use Rattle.xmp_base.proofs.Names.{get-insert_same, get-insert_other}
 use Rattle.xmp_base.proofs.Ends.{grows_none, grows_both, grows_part, still_none, len_insert, created_len, created_other}
 use Rattle.xmp_base.proofs.Calls.{counts_trans, rose_after, reads_none}
 use Rattle.xmp_base.proofs.Inside.{inside_none, inside_wider}
-use Rattle.xmp_files.specs.Keeping.{Piece, Kept, sidecar}
+use Rattle.xmp_files.specs.Faults.{not_built}
+use Rattle.xmp_files.specs.Keeping.{Piece, Container, Text, Segments, Kept, sidecar}
 use Rattle.xmp_files.specs.Loading.{kind_of_file, IsLoaded}
-use Rattle.xmp_files.specs.Planning.{Plan, planned_file}
-use Rattle.xmp_files.specs.Plans.{IsPlanned, planned_len}
+use Rattle.xmp_files.specs.Planning.{Edited, Plan, planned_file}
+use Rattle.xmp_files.specs.Plans.{IsPlanned, IsWrittenIn, planned_len}
 use Rattle.xmp_files.specs.Planneds.{bytes_in, new_packet}
 use Rattle.xmp_files.specs.Emitting.{PiecesCall, EmitCall, EmittedFile, IsPlanFor, most_piece}
 use Rattle.xmp_files.proofs.PacketLengths.{IsNewFile, planned_new, is_sidecar}
@@ -120,9 +121,17 @@ module _ (s : DeskState) (held : Kept) (new : Plan) (from : List ℕ) (loaded : 
 
   pub planned_bytes : Told s.files (λ files. new_packet held.payload new ≡ planned_file (bytes_of files from) new)
   planned_bytes files told =
-      let same : held ≡ sidecar held.need (bytes_of files from) = is_sidecar held.need (bytes_of files from) (kind_of_file (get files from)) held (loaded files told) in
+      let same : held ≡ sidecar held.need (bytes_of files from) = is_sidecar held.need (bytes_of files from) (kind_of_file (get files from)) held (loaded files told) (ap (λ (k : Kept). k.container) form) in
       ap (λ (o : Option Piece). new_packet o new) payload_is ∙ new_file.is ∙ ap (λ (l : List ℕ). planned_file l new) (ap (λ (k : Kept). bytes_in k.payload) same)
 
   pub planned_size : length (new_packet held.payload new) ≡ planned_len held.size new
   planned_size = ap (λ (o : Option Piece). length (new_packet o new)) payload_is ∙ ap length new_file.is ∙ new_file.size
       ∙ ap (λ (n : ℕ). planned_len n new) (sym (ap (λ (k : Kept). k.size) form))
+
+-- JPEG files have no plan yet
+text_by : (c : Container) (payload : Option Piece) (joined patch : Bool) (e : Edited) (plan : Plan) → IsWrittenIn c payload joined patch e (Ok plan) → c ≡ Text
+text_by Text payload joined patch e plan h = refl
+text_by (Segments regions) payload joined patch e plan h = let bad : Ok plan ≡ Err not_built = h in absurd (cc bad)
+
+pub planned_text : (held : Kept) (plan : Plan) → IsPlanFor held plan → held.container ≡ Text
+planned_text held plan p = text_by held.container held.payload p.0 p.1 p.2 plan p.3

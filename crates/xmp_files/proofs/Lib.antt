@@ -1,4 +1,5 @@
 pub mod Loads
+pub mod LoadedPhotographs
 pub mod OneStep
 pub mod Opens
 pub mod NeverMissing

@@ -7,13 +7,17 @@ use Rattle.std.specs.Option.{unwrap_or}
 use Rattle.std.proofs.lemmas.Bool.{ltb-false}
 use Rattle.xmp_values.specs.declared.faults.Fault.{Fault}
 use Rattle.xmp_files.specs.declared.kinds.Kind.{Kind}
-use Rattle.xmp_files.specs.declared.kinds.Kind.TheVariants.{Sidecar}
+use Rattle.xmp_files.specs.declared.kinds.Kind.TheVariants.{Jpeg, Sidecar}
 use Rattle.xmp_files.specs.declared.held.Need.{Need}
 use Rattle.xmp_files.specs.Faults.{packet_limit, over_packet, not_built}
 use Rattle.xmp_files.specs.Stages.{followed, Followed}
-use Rattle.xmp_files.specs.Keeping.{Kept, sidecar}
+use Rattle.xmp_files.specs.Keeping.{Text, Kept, sidecar, photograph}
+use Rattle.xmp_files.specs.Photographs.{IsCut, main_packet}
 use Rattle.xmp_files.specs.Loading.{kind_of_file, limited, IsKept, IsLoaded}
-use Rattle.xmp_files.proofs.PacketLengths.{is_sidecar}
+use Rattle.xmp_files.specs.Planning.{Edited, Plan}
+use Rattle.xmp_files.specs.Plans.{IsPlanned}
+use Rattle.xmp_files.proofs.Emits.{planned_text}
+use Rattle.xmp_files.proofs.PacketLengths.{is_sidecar, sidecar_kept, limited_keeps, cut_no_text}
 
 -- FILE is a sidecar within the limit
 pub record IsSidecarOf (need : Need) (bytes : List ℕ) (kept : Kept) : Type 0 where
@@ -24,21 +28,45 @@ short_by : (over : Bool) (kept other : Kept) (f : Fault) → Ok kept ≡ (if ove
 short_by true kept other f e = absurd (cc e)
 short_by false kept other f e = refl
 
-short_kept : (need : Need) (bytes : List ℕ) (by : Result Kind Fault) (kept : Kept) → Followed by (IsKept need bytes) (Ok kept) → length bytes ≤ packet_limit
-short_kept need bytes (Err fault) kept h = absurd (cc h)
-short_kept need bytes (Ok Sidecar) kept h =
+short_kept : (need : Need) (bytes : List ℕ) (by : Result Kind Fault) (kept : Kept) → Followed by (IsKept need bytes) (Ok kept) → kept.container ≡ Text → length bytes ≤ packet_limit
+short_kept need bytes (Err fault) kept h text = absurd (cc h)
+short_kept need bytes (Ok Jpeg) kept h text = absurd (cut_no_text need bytes h.0 kept h.1 h.2 text)
+short_kept need bytes (Ok Sidecar) kept h text =
     ltb-false packet_limit (length bytes) (short_by (nat_lt packet_limit (length bytes)) kept (sidecar need bytes) (over_packet (length bytes)) (h.2 ∙ ap (λ (r : Result Kept Fault). followed r limited) h.1))
-short_kept need bytes (Ok kind) kept h =
+short_kept need bytes (Ok kind) kept h text =
     let bad : Ok kept ≡ Err not_built = h.2 ∙ ap (λ (r : Result Kept Fault). followed r limited) h.1 in absurd (cc bad)
 
-pub loaded_sidecar : (need : Need) (file : Option (List ℕ)) (kept : Kept) → IsLoaded need file (Ok kept) → IsSidecarOf need (unwrap_or file []) kept
-loaded_sidecar need file kept h = record {
-  is = is_sidecar need (unwrap_or file []) (kind_of_file file) kept h;
-  short = short_kept need (unwrap_or file []) (kind_of_file file) kept h;
+pub loaded_sidecar : (need : Need) (file : Option (List ℕ)) (kept : Kept) → IsLoaded need file (Ok kept) → kept.container ≡ Text → IsSidecarOf need (unwrap_or file []) kept
+loaded_sidecar need file kept h text = record {
+  is = is_sidecar need (unwrap_or file []) (kind_of_file file) kept h text;
+  short = short_kept need (unwrap_or file []) (kind_of_file file) kept h text;
 }
 
+-- a file that has a plan is a sidecar
+pub planned_sidecar : (need : Need) (file : Option (List ℕ)) (kept : Kept) (joined patch : Bool) (e : Edited) (plan : Plan) → IsLoaded need file (Ok kept) → IsPlanned kept joined patch e (Ok plan)
+    → IsSidecarOf need (unwrap_or file []) kept
+planned_sidecar need file kept joined patch e plan h p = loaded_sidecar need file kept h (planned_text kept plan (joined, patch, e, p))
+
+-- the length of the file, and what was asked for
+record Asks (need : Need) (bytes : List ℕ) (kept : Kept) : Type 0 where
+  size : kept.size ≡ length bytes
+  need_is : kept.need ≡ need
+
+cut_asks : (need : Need) (bytes : List ℕ) (held : Result Kept Fault) (kept : Kept) → IsCut need bytes held → Ok kept ≡ followed held limited → Asks need bytes kept
+cut_asks need bytes (Err fault) kept cut e = let bad : Ok kept ≡ Err fault = e in absurd (cc bad)
+cut_asks need bytes (Ok other) kept cut e =
+    let is : kept ≡ photograph need (length bytes) cut.0 (main_packet bytes cut.0) = limited_keeps kept other other.payload e ∙ cut.2 in
+    record { size = ap (λ (k : Kept). k.size) is; need_is = ap (λ (k : Kept). k.need) is }
+
+asks : (need : Need) (bytes : List ℕ) (by : Result Kind Fault) (kept : Kept) → Followed by (IsKept need bytes) (Ok kept) → Asks need bytes kept
+asks need bytes (Err fault) kept h = absurd (cc h)
+asks need bytes (Ok Jpeg) kept h = cut_asks need bytes h.0 kept h.1 h.2
+asks need bytes (Ok Sidecar) kept h = let is = sidecar_kept need bytes kept h in record { size = ap (λ (k : Kept). k.size) is; need_is = ap (λ (k : Kept). k.need) is }
+asks need bytes (Ok kind) kept h =
+    let bad : Ok kept ≡ Err not_built = h.2 ∙ ap (λ (r : Result Kept Fault). followed r limited) h.1 in absurd (cc bad)
+
 pub loaded_size : (need : Need) (file : Option (List ℕ)) (kept : Kept) → IsLoaded need file (Ok kept) → kept.size ≡ length (unwrap_or file [])
-loaded_size need file kept h = ap (λ (k : Kept). k.size) (loaded_sidecar need file kept h).is
+loaded_size need file kept h = (asks need (unwrap_or file []) (kind_of_file file) kept h).size
 
 pub loaded_need : (need : Need) (file : Option (List ℕ)) (kept : Kept) → IsLoaded need file (Ok kept) → kept.need ≡ need
-loaded_need need file kept h = ap (λ (k : Kept). k.need) (loaded_sidecar need file kept h).is
+loaded_need need file kept h = (asks need (unwrap_or file []) (kind_of_file file) kept h).need_is

@@ -20,7 +20,7 @@ use Rattle.xmp_values.specs.declared.stops.FileStop.{FileStop}
 use Rattle.xmp_values.specs.declared.stops.FileStop.TheVariants.{Fault as Refused}
 use Rattle.xmp_base.specs.declared.device.Failed.{Failed}
 use Rattle.xmp_files.specs.declared.kinds.Kind.{Kind}
-use Rattle.xmp_files.specs.declared.kinds.Kind.TheVariants.{Sidecar}
+use Rattle.xmp_files.specs.declared.kinds.Kind.TheVariants.{Jpeg, Sidecar}
 use Rattle.xmp_files.specs.declared.held.Need.{Need}
 use Rattle.xmp_files.specs.Faults.{file_limit, over_limit, not_known, not_built}
 use Rattle.xmp_files.specs.Kinds.{kind_of, kind_of_head}
@@ -140,16 +140,17 @@ module _ (need : Need) (s t : DeskState) (name : List ℕ) (size : ℕ) (sized :
     }
 
 -- the kind of a file that is told
-known_as : (bytes : List ℕ) (kind : Kind) → kind_of bytes ≡ Some kind → known bytes ≡ Ok kind
+pub known_as : (bytes : List ℕ) (kind : Kind) → kind_of bytes ≡ Some kind → known bytes ≡ Ok kind
 known_as bytes kind is = ap (λ (k : Option Kind). ok_or k not_known) is
 
-by_known : (need : Need) (bytes : List ℕ) (by : Result Kind Fault) (step : Result Kept Fault) → known bytes ≡ by
+pub by_known : (need : Need) (bytes : List ℕ) (by : Result Kind Fault) (step : Result Kept Fault) → known bytes ≡ by
     → Followed by (IsKept need bytes) step → Followed (known bytes) (IsKept need bytes) step
 by_known need bytes by step is h = subst (λ (k : Result Kind Fault). Followed k (IsKept need bytes) step) (sym is) h
 
-unbuilt_contained : (need : Need) (kind : Kind) (bytes : List ℕ) → kind ≢ Sidecar → IsContained need kind bytes (Err not_built)
-unbuilt_contained need Sidecar bytes other = absurd (other refl)
-unbuilt_contained need kind bytes other = refl
+unbuilt_contained : (need : Need) (kind : Kind) (bytes : List ℕ) → kind ≢ Sidecar → kind ≢ Jpeg → IsContained need kind bytes (Err not_built)
+unbuilt_contained need Sidecar bytes other more = absurd (other refl)
+unbuilt_contained need Jpeg bytes other more = absurd (more refl)
+unbuilt_contained need kind bytes other more = refl
 
 -- no call since
 pub inside_idle : (s : DeskState) (name : List ℕ) (end : ℕ) → ReadInside s s name 0 end
@@ -163,11 +164,11 @@ inside_idle s name end = record {
 -- The exits of a file of a known kind.
 module _ (need : Need) (s : DeskState) (name : List ℕ) (size : ℕ) (sized : Sized s name size) (kind : Kind)
     (told : Told s.files (λ files. kind_of (bytes_of files name) ≡ Some kind)) where
-  pub unbuilt_end : (fault : Fault) → fault ≡ not_built → kind ≢ Sidecar → SizedCall need s s name size (Err (Refused fault))
-  unbuilt_end fault is other = subst (λ (f : Fault). SizedCall need s s name size (Err (Refused f))) (sym is)
+  pub unbuilt_end : (fault : Fault) → fault ≡ not_built → kind ≢ Sidecar → kind ≢ Jpeg → SizedCall need s s name size (Err (Refused fault))
+  unbuilt_end fault is other more = subst (λ (f : Fault). SizedCall need s s name size (Err (Refused f))) (sym is)
       (sized_refusal need s s name size sized not_built (inside_idle s name size) (inside_none name 0 16 s.reads s.reads refl) refl (λ e. cc) (spared_none need s s name refl)
       (λ files is. by_known need (bytes_of files name) (Ok kind) (Err not_built) (known_as (bytes_of files name) kind (told files is))
-      (Err not_built, unbuilt_contained need kind (bytes_of files name) other, refl)))
+      (Err not_built, unbuilt_contained need kind (bytes_of files name) other more, refl)))
 
 -- the file, where `size` answered n
 size_found : (found : Option (List ℕ)) (n : ℕ) → Ok n ≡ size_of found → (found ≡ Some (unwrap_or found [])) × (length (unwrap_or found []) ≡ n)

@@ -4,7 +4,7 @@ use Rattle.std.specs.declared.result.Result.{Result}
 use Rattle.xmp_values.specs.declared.faults.Fault.{Fault}
 use Rattle.xmp_values.specs.declared.faults.Part.TheVariants.{Main}
 use Rattle.xmp_values.specs.declared.rules.Rule.{Rule}
-use Rattle.xmp_values.specs.declared.rules.Rule.TheVariants.{NoFile, NoRdf, NotDescription, AboutDiffers, NoNamespace, XmlName, RdfName, RefusedAttribute, BadParseType, Mixed, ManyNodes, BadContainer, BadItem, TwiceValue, Twice, TreeDeep}
+use Rattle.xmp_values.specs.declared.rules.Rule.TheVariants.{NoFile, NotBuilt, NoRdf, NotDescription, AboutDiffers, NoNamespace, XmlName, RdfName, RefusedAttribute, BadParseType, Mixed, ManyNodes, BadContainer, BadItem, TwiceValue, Twice, TreeDeep}
 use Rattle.xmp_values.specs.declared.hints.Hint.{Hint}
 use Rattle.xmp_values.specs.declared.text.Name.{Name}
 use Rattle.xml_grammar.specs.declared.elements.Element.{Element}
@@ -20,8 +20,10 @@ use Rattle.xmp_rdf.specs.declared.meanings.Meaning.{Meaning}
 use Rattle.xmp_packets.specs.Packets.{packet_text}
 use Rattle.xmp_values.specs.Stops as stops
 use Rattle.xmp_files.specs.Stages.{Followed}
-use Rattle.xmp_files.specs.Keeping.{Piece, Kept}
-use Rattle.xmp_files.specs.Opening.{Means, Opens, OpensMain, IsJoined, IsOpened, in_main, no_meaning}
+use Rattle.xmp_files.specs.Faults.{not_built}
+use Rattle.xmp_files.specs.declared.opening.Opened.{Opened}
+use Rattle.xmp_files.specs.Keeping.{Piece, Container, Text, Segments, Kept}
+use Rattle.xmp_files.specs.Opening.{Means, Opens, OpensMain, IsJoined, IsOpened, joined_in, in_main, no_meaning}
 
 -- a rule, if there is one, isn't that of a missing file
 abbrev IsThere : Option Rule → Type 0
@@ -136,8 +138,14 @@ main_there : (payload : Option Piece) (fault : Fault) → OpensMain payload (Err
 main_there None fault is = absurd (let bad : Err fault ≡ Ok no_meaning = is in cc)
 main_there (Some piece) fault opens = opens_there piece.bytes fault opens
 
+-- nor is a text that isn't joined
+in_there : (c : Container) (m : Meaning) (note : Option (List ℕ)) (fault : Fault) → (let e : Result Opened Fault = Err fault in e) ≡ joined_in c m note → fault.rule ≡ NoFile → ⊥
+in_there Text m note fault is = absurd (cc is)
+in_there (Segments regions) m None fault is = absurd (cc is)
+in_there (Segments regions) m (Some name) fault is = λ rule. let same : fault ≡ not_built = cc is in let bad : NotBuilt ≡ NoFile = sym (ap (λ (f : Fault). f.rule) same) ∙ rule in cc bad
+
 joined_there : (kept : Kept) (main : Result Meaning Fault) (fault : Fault) → OpensMain kept.payload main → Followed main (IsJoined kept) (Err fault) → fault.rule ≡ NoFile → ⊥
-joined_there kept (Ok meaning) fault opens is = absurd (let bad : Err fault ≡ Ok (record { meaning = meaning; joined = false }) = is in cc)
+joined_there kept (Ok meaning) fault opens is = in_there kept.container meaning meaning.note fault is
 joined_there kept (Err f) fault opens is = main_there kept.payload fault (subst (λ (g : Fault). OpensMain kept.payload (Err g)) (let e : f ≡ fault = cc is in e) opens)
 
 -- nor is what is kept

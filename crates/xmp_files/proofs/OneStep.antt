@@ -1,9 +1,11 @@
 -- What is kept of a file, and what it means, have at most one step each.
-use Rattle.std.proofs.Common.{◌≡◌, ◌∙◌, ℕ, List, [], Ok, Err, Some, None, inl, inr, sym, ap, subst}
+use Rattle.std.proofs.Common.{◌≡◌, ◌∙◌, ℕ, List, [], length, Ok, Err, Some, None, inl, inr, sym, ap, subst}
 use Rattle.std.specs.declared.option.Option.{Option}
 use Rattle.std.specs.declared.result.Result.{Result}
 use Rattle.std.specs.Option.{unwrap_or}
 use Rattle.xmp_values.specs.declared.faults.Fault.{Fault}
+use Rattle.xmp_values.specs.declared.faults.Part.TheVariants.{File}
+use Rattle.xmp_values.specs.Stops.{fault_at}
 use Rattle.xmp_values.specs.declared.hints.Hint.{Hint}
 use Rattle.xmp_values.specs.declared.rules.Rule.{Rule}
 use Rattle.xml_grammar.specs.declared.elements.Element.{Element}
@@ -13,12 +15,15 @@ use Rattle.xmp_rdf.specs.declared.meanings.Meaning.{Meaning}
 use Rattle.xmp_rdf.specs.Meanings.{reading}
 use Rattle.xmp_packets.specs.Packets.{packet_text}
 use Rattle.xmp_files.specs.declared.kinds.Kind.{Kind}
-use Rattle.xmp_files.specs.declared.kinds.Kind.TheVariants.{Sidecar}
+use Rattle.xmp_files.specs.declared.kinds.Kind.TheVariants.{Jpeg, Sidecar}
 use Rattle.xmp_files.specs.declared.held.Need.{Need}
 use Rattle.xmp_files.specs.declared.held.Need.TheVariants.{Packet}
 use Rattle.xmp_files.specs.declared.opening.Opened.{Opened}
 use Rattle.xmp_files.specs.Stages.{followed, Followed}
-use Rattle.xmp_files.specs.Keeping.{Piece, Kept}
+use Rattle.xmp_files.specs.Keeping.{Piece, Kept, photograph}
+use Rattle.xmp_files.specs.Photographs.{IsCut, main_packet}
+use Rattle.jpeg_regions.specs.Jpeg.{Region}
+use Rattle.jpeg_regions.proofs.Faults.{cuts_same, fault_same, list_or_fault}
 use Rattle.xmp_files.specs.Loading.{kind_of_file, limited, IsContained, IsKept, IsLoaded}
 use Rattle.xmp_files.specs.Opening.{Means, Opens, OpensMain, IsJoined, IsOpened, Holds, in_main}
 
@@ -67,8 +72,20 @@ one_joined kept meaning a b p q = p ∙ sym q
 pub one_opened : (kept : Kept) (a b : Result Opened Fault) → IsOpened kept a → IsOpened kept b → a ≡ b
 one_opened kept a b p q = one_after p.0 q.0 (IsJoined kept) (one_joined kept) (one_main kept.payload p.0 q.0 p.1 q.1) a b p.2 q.2
 
+one_cut : (need : Need) (bytes : List ℕ) → One (IsCut need bytes)
+one_cut need bytes (Ok k) (Ok l) p q =
+    let same : p.0 ≡ q.0 = cuts_same bytes p.0 q.0 p.1.cuts q.1.cuts in
+    ap (λ (x : Kept). let r : Result Kept Fault = Ok x in r) (p.2 ∙ ap (λ (rs : List Region). photograph need (length bytes) rs (main_packet bytes rs)) same ∙ sym q.2)
+one_cut need bytes (Ok k) (Err f) p q = absurd (list_or_fault bytes p.0 q.0 q.1 p.1 q.2)
+one_cut need bytes (Err f) (Ok k) p q = absurd (list_or_fault bytes q.0 p.0 p.1 q.1 p.2)
+one_cut need bytes (Err f) (Err g) p q =
+    let same = fault_same bytes p.0 q.0 p.1 q.1 p.2 q.2 in
+    ap (λ (x : Fault). let r : Result Kept Fault = Err x in r)
+    (p.3 ∙ ap (λ (rule : Rule). fault_at rule File p.1) same.0 ∙ ap (λ (place : ℕ). fault_at q.0 File place) same.1 ∙ sym q.3)
+
 one_contained : (need : Need) (kind : Kind) (bytes : List ℕ) → One (IsContained need kind bytes)
 one_contained need Sidecar bytes = λ a b p q. p ∙ sym q
+one_contained need Jpeg bytes = one_cut need bytes
 one_contained need other bytes = λ a b p q. p ∙ sym q
 
 one_kept : (need : Need) (bytes : List ℕ) (kind : Kind) → One (IsKept need bytes kind)

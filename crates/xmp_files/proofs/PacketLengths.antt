@@ -15,12 +15,13 @@ use Rattle.xmp_write.specs.WrittenPackets.{header, trailer, pad, packet, least_l
 use Rattle.xmp_write.proofs.PutPackets.{length-pad}
 use Rattle.xmp_base.specs.Device.{put_at}
 use Rattle.xmp_files.specs.declared.kinds.Kind.{Kind}
-use Rattle.xmp_files.specs.declared.kinds.Kind.TheVariants.{Sidecar}
+use Rattle.xmp_files.specs.declared.kinds.Kind.TheVariants.{Jpeg, Sidecar}
 use Rattle.xmp_files.specs.declared.held.Need.{Need}
 use Rattle.xmp_files.specs.Faults.{packet_limit, over_packet, not_built}
 use Rattle.xmp_files.specs.Stages.{followed, Followed}
-use Rattle.xmp_files.specs.Keeping.{Text, Kept, sidecar}
-use Rattle.xmp_files.specs.Loading.{limited, IsKept}
+use Rattle.xmp_files.specs.Keeping.{Piece, Text, Segments, Kept, sidecar}
+use Rattle.xmp_files.specs.Photographs.{IsCut}
+use Rattle.xmp_files.specs.Loading.{limited, limited_by, IsKept}
 use Rattle.xmp_files.specs.Planning.{Edited, Plan, InPlace, Relocated, planned_file}
 use Rattle.xmp_files.specs.Plans.{IsPlanned, OrRelocation, planned_len, packet_of, least_of, padding, stays, fits, whole_form, told, needs_relocation}
 use Rattle.xmp_files.specs.Planneds.{new_packet}
@@ -42,12 +43,28 @@ kept_by : (over : Bool) (kept other : Kept) (f : Fault) → Ok kept ≡ (if over
 kept_by true kept other f e = absurd (cc e)
 kept_by false kept other f e = cc e
 
--- what is kept of a file is its packet
-pub is_sidecar : (need : Need) (bytes : List ℕ) (by : Result Kind Fault) (kept : Kept) → Followed by (IsKept need bytes) (Ok kept) → kept ≡ sidecar need bytes
-is_sidecar need bytes (Err fault) kept h = absurd (cc h)
-is_sidecar need bytes (Ok Sidecar) kept h =
+pub limited_keeps : (kept other : Kept) (payload : Option Piece) → Ok kept ≡ limited_by other payload → kept ≡ other
+limited_keeps kept other None e = cc e
+limited_keeps kept other (Some piece) e = kept_by (nat_lt packet_limit (length piece.bytes)) kept other (over_packet (length piece.bytes)) e
+
+-- a JPEG file is no text
+pub cut_no_text : (need : Need) (bytes : List ℕ) (held : Result Kept Fault) (kept : Kept) → IsCut need bytes held → Ok kept ≡ followed held limited → kept.container ≡ Text → ⊥
+cut_no_text need bytes (Err fault) kept cut e text = let bad : Ok kept ≡ Err fault = e in cc bad
+cut_no_text need bytes (Ok other) kept cut e text =
+    let bad : Segments cut.0 ≡ Text = sym (ap (λ (k : Kept). k.container) (limited_keeps kept other other.payload e ∙ cut.2)) ∙ text in cc bad
+
+-- what is kept of a sidecar is its packet
+pub sidecar_kept : (need : Need) (bytes : List ℕ) (kept : Kept) → IsKept need bytes Sidecar (Ok kept) → kept ≡ sidecar need bytes
+sidecar_kept need bytes kept h =
     kept_by (nat_lt packet_limit (length bytes)) kept (sidecar need bytes) (over_packet (length bytes)) (h.2 ∙ ap (λ (r : Result Kept Fault). followed r limited) h.1)
-is_sidecar need bytes (Ok kind) kept h =
+
+-- what is kept of a text is its packet
+pub is_sidecar : (need : Need) (bytes : List ℕ) (by : Result Kind Fault) (kept : Kept) → Followed by (IsKept need bytes) (Ok kept) → kept.container ≡ Text → kept ≡ sidecar need bytes
+is_sidecar need bytes (Err fault) kept h text = absurd (cc h)
+is_sidecar need bytes (Ok Jpeg) kept h text = absurd (cut_no_text need bytes h.0 kept h.1 h.2 text)
+is_sidecar need bytes (Ok Sidecar) kept h text =
+    kept_by (nat_lt packet_limit (length bytes)) kept (sidecar need bytes) (over_packet (length bytes)) (h.2 ∙ ap (λ (r : Result Kept Fault). followed r limited) h.1)
+is_sidecar need bytes (Ok kind) kept h text =
     let bad : Ok kept ≡ Err not_built = h.2 ∙ ap (λ (r : Result Kept Fault). followed r limited) h.1 in absurd (cc bad)
 
 -- what the bytes of a new file are, and how many

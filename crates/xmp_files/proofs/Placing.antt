@@ -1,5 +1,5 @@
 -- Where a packet that fits is put, and that a change of the tree is a plan.
-use Rattle.std.proofs.Common.{◌≡◌, ℕ, ◌+◌, ◌≤◌, Bool, true, false, List, ◌++◌, Some, None, Ok, Err, refl, inr, arith, ap, sym, subst, ◌∙◌}
+use Rattle.std.proofs.Common.{◌≡◌, ℕ, ◌+◌, ◌≤◌, Bool, true, false, List, ◌++◌, Some, None, Ok, Err, refl, inl, inr, arith, ap, sym, subst, ◌∙◌}
 use Rattle.std.specs.Prelude.{◌≢◌, not, min, nat_lt}
 use Rattle.std.proofs.Math.Nat.{min-le_left, min-eq_left}
 use Rattle.std.proofs.lemmas.Bool.{le-ltb}
@@ -9,30 +9,58 @@ use Rattle.xmp_values.specs.declared.hints.Hint.{Hint}
 use Rattle.xmp_write.specs.declared.forms.Form.{Form}
 use Rattle.xmp_write.specs.Prefixes.{prefixes}
 use Rattle.xmp_write.specs.WrittenPackets.{least_len, packet}
-use Rattle.xmp_files.specs.Faults.{packet_limit}
+use Rattle.xmp_files.specs.Faults.{packet_limit, not_built}
 use Rattle.std.specs.declared.option.Option.{Option}
 use Rattle.std.proofs.lemmas.Bool.{and_parts}
 use Rattle.xmp_values.specs.declared.stops.FaultStop.{FaultStop}
 use Rattle.xmp_values.specs.declared.stops.FaultStop.TheVariants as faults
-use Rattle.xmp_files.specs.Keeping.{Piece, Container, Text, Kept}
-use Rattle.xmp_files.specs.Planning.{Edited, Plan, InPlace}
-use Rattle.xmp_files.specs.Plans.{packet_of, room_of, put_over, told, padding, least_of, whole_form, unmoved, OrRelocation, IsMoved, fits, exchanged, digest_pieces}
+use Rattle.xmp_files.specs.Keeping.{Piece, Container, Text, Segments, IsSegments, Kept}
+use Rattle.jpeg_regions.specs.Jpeg.{Region}
+use Rattle.xmp_files.specs.Planning.{Edited, Plan, Same, InPlace, Relocated}
+use Rattle.xmp_files.specs.Plans.{packet_of, room_of, put_over, told, padding, least_of, whole_form, unmoved, OrRelocation, IsMoved, IsEdited, IsWrittenIn, IsPlanned, stays, fits, exchanged, digest_pieces}
 use Rattle.xmp_files.specs.Planneds.{MoveAnswer, PlanAnswer}
 
 -- a packet that fits is put over the payload
 pub placed : (payload : Option Piece) (container : Container) (joined : Bool) (least : ℕ) (e : Edited) → fits payload joined least ≡ true
     → InPlace (exchanged payload e ++ digest_pieces container e.digest) ≡ put_over payload (packet_of e (room_of payload))
 placed (Some payload) Text joined least e h = refl
-placed None Text joined least e h =
+placed (Some payload) (Segments regions) joined least e h = refl
+placed None container joined least e h =
     let parts = and_parts (not joined) false h in
     let no : false ≡ true = parts.1 in
     absurd cc
 
+segments_text : (regions : List Region) → Segments regions ≡ Text → ⊥
+segments_text regions e = cc e
+
+-- a text is written
+written_text : (c : Container) (payload : Option Piece) (joined patch : Bool) (e : Edited) (step : Result Plan Fault) → c ≡ Text → IsEdited payload Text joined patch e step
+    → IsWrittenIn c payload joined patch e step
+written_text Text payload joined patch e step is h = h
+written_text (Segments regions) payload joined patch e step is h = absurd (segments_text regions is)
+
+-- a JPEG file isn't
+pub unwritten : (c : Container) (payload : Option Piece) (joined patch : Bool) (e : Edited) (fault : Fault) → IsSegments c → fault ≡ not_built
+    → IsWrittenIn c payload joined patch e (Err fault)
+unwritten Text payload joined patch e fault segments is = absurd segments
+unwritten (Segments regions) payload joined patch e fault segments is = ap (λ (f : Fault). let r : Result Plan Fault = Err f in r) is
+
+-- a tree that stays
+pub same_planned : (kept : Kept) (joined patch : Bool) (e : Edited) → kept.container ≡ Text → e.new ≡ e.old → e.digest ≡ None → IsPlanned kept joined patch e (Ok Same)
+same_planned kept joined patch e text same none =
+    written_text kept.container kept.payload joined patch e (Ok Same) text
+    (inl (same, ap (λ (d : Option (List ℕ)). let r : Result Plan Fault = Ok (stays Text d) in r) (sym none)))
+
+-- a tree that changes
+pub changed_planned : (kept : Kept) (joined patch : Bool) (e : Edited) (plan : Plan) → kept.container ≡ Text → e.new ≢ e.old
+    → IsMoved kept.payload Text joined patch e (Ok plan) → IsPlanned kept joined patch e (Ok plan)
+changed_planned kept joined patch e plan text differs h = written_text kept.container kept.payload joined patch e (Ok plan) text (inr (differs, h))
+
 -- the fault of a changed tree is that of the plan
-pub stops_planned : (kept : Kept) (joined patch : Bool) (e : Edited) (stop : FaultStop) → e.new ≢ e.old → MoveAnswer kept joined patch e (Err stop)
+pub stops_planned : (kept : Kept) (joined patch : Bool) (e : Edited) (stop : FaultStop) → kept.container ≡ Text → e.new ≢ e.old → MoveAnswer kept.payload joined patch e (Err stop)
     → PlanAnswer kept joined patch e (Err stop)
-stops_planned kept joined patch e (faults.Fault fault) differs h = inr (differs, h)
-stops_planned kept joined patch e faults.Memory differs h = tt
+stops_planned kept joined patch e (faults.Fault fault) text differs h = written_text kept.container kept.payload joined patch e (Err fault) text (inr (differs, h))
+stops_planned kept joined patch e faults.Memory text differs h = tt
 
 abbrev ok_plan : Plan → Result Plan Fault
 ok_plan p = Ok p

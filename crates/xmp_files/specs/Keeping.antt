@@ -1,7 +1,8 @@
 -- What is kept of a file.
 use Rattle.std.specs.Prelude.{ℕ, List, [], length, Option, Some}
+use Rattle.jpeg_regions.specs.Jpeg.{Region}
 use Rattle.xmp_files.specs.declared.kinds.Kind.{Kind}
-use Rattle.xmp_files.specs.declared.kinds.Kind.TheVariants.{Sidecar}
+use Rattle.xmp_files.specs.declared.kinds.Kind.TheVariants.{Jpeg, Sidecar}
 use Rattle.xmp_files.specs.declared.held.Need.{Need}
 
 -- bytes, and the place in the file where they stand
@@ -15,10 +16,16 @@ pub record Block : Type 0 where
   pub size : ℕ
   pub bytes : Option (List ℕ)
 
--- How a file is made up. Of the containers that are built, a sidecar is nothing but its packet; the regions of a JPEG
--- file and the directories of a TIFF file are further cases.
+-- How a file is made up. Of the containers that are built, a sidecar is nothing but its packet, and a JPEG file is its
+-- regions; the directories of a TIFF file are a further case.
 pub data Container : Type 0 where
   Text : Container
+  Segments : (regions : List Region) → Container
+
+-- a JPEG file's container
+abbrev pub IsSegments : Container → Type 0
+IsSegments Text = ⊥
+IsSegments (Segments regions) = Unit {0}
 
 pub record Kept : Type 0 where
   -- what was asked for
@@ -42,6 +49,18 @@ sidecar need bytes = record {
   size = length bytes;
   payload = Some (record { at = 0; bytes = bytes });
   container = Text;
+  portions = [];
+  blocks = [];
+}
+
+-- of a JPEG file of so many bytes
+abbrev pub photograph : Need → ℕ → List Region → Option Piece → Kept
+photograph need size regions packet = record {
+  need = need;
+  kind = Jpeg;
+  size = size;
+  payload = packet;
+  container = Segments regions;
   portions = [];
   blocks = [];
 }

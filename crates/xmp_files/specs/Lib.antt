@@ -2,6 +2,8 @@ pub mod Kinds
 pub mod Faults
 pub mod Stages
 pub mod Keeping
+pub mod Helds
+pub mod Photographs
 pub mod Loading
 pub mod Sparing
 pub mod Opening

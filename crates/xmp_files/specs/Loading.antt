@@ -4,12 +4,13 @@ use Rattle.std.specs.Option.{ok_or, unwrap_or}
 use Rattle.std.specs.declared.result.Result.{Result}
 use Rattle.xmp_values.specs.declared.faults.Fault.{Fault}
 use Rattle.xmp_files.specs.declared.kinds.Kind.{Kind}
-use Rattle.xmp_files.specs.declared.kinds.Kind.TheVariants.{Sidecar}
+use Rattle.xmp_files.specs.declared.kinds.Kind.TheVariants.{Jpeg, Sidecar}
 use Rattle.xmp_files.specs.declared.held.Need.{Need}
 use Rattle.xmp_files.specs.Faults.{no_file, file_limit, over_limit, not_known, not_built, packet_limit, over_packet}
 use Rattle.xmp_files.specs.Kinds.{kind_of}
 use Rattle.xmp_files.specs.Stages.{followed, Followed}
 use Rattle.xmp_files.specs.Keeping.{Piece, Kept, sidecar}
+use Rattle.xmp_files.specs.Photographs.{IsCut}
 
 -- First FILE is there and within the limit.
 abbrev pub within : Option (List ℕ) → Result (List ℕ) Fault
@@ -24,9 +25,10 @@ known bytes = ok_or (kind_of bytes) not_known
 abbrev pub kind_of_file : Option (List ℕ) → Result Kind Fault
 kind_of_file file = followed (within file) known
 
--- Then its container, by a relation, since the containers are given by relations. Sidecars alone are built yet.
+-- Then its container, by a relation, since the containers are given by relations. Sidecars and JPEG files alone are built yet.
 abbrev pub IsContained : Need → Kind → List ℕ → Result Kept Fault → Type 0
 IsContained need Sidecar bytes step = step ≡ Ok (sidecar need bytes)
+IsContained need Jpeg bytes step = IsCut need bytes step
 IsContained need other bytes step = step ≡ Err not_built
 
 -- Then the main payload is within the limit.

@@ -9,6 +9,11 @@ use Rattle.xmp_base.specs.declared.device.Failed.{Failed}
 use Rattle.xmp_values.specs.declared.faults.Fault.{Fault}
 use Rattle.xmp_values.specs.declared.rules.Rule.{Rule}
 use Rattle.xmp_values.specs.declared.rules.Rule.TheVariants.{FileLimit, NotKnown, NotBuilt, XmpLimit}
+use Rattle.xmp_values.specs.Stops.{fault_at}
+use Rattle.xmp_values.specs.declared.faults.Part.TheVariants.{File}
+use Rattle.jpeg_regions.specs.Jpeg.{FaultIn}
+use Rattle.xmp_values.specs.declared.stops.DeviceStop.{DeviceStop}
+use Rattle.xmp_values.specs.declared.stops.DeviceStop.TheVariants as cuts
 use Rattle.xmp_values.specs.declared.stops.FileStop.{FileStop}
 use Rattle.xmp_values.specs.declared.stops.FileStop.TheVariants.{Absent, Fault as Refused, Device, Memory}
 use Rattle.xmp_files.specs.declared.kinds.Kind.{Kind}
@@ -28,15 +33,17 @@ LoadGives (Err (Refused fault)) IsStep = IsStep (Err fault)
 LoadGives (Err Device) IsStep = Unit {0}
 LoadGives (Err Memory) IsStep = Unit {0}
 
--- The refusals, by their rules, of a file of a length. A payload is no longer than its file.
+-- The refusals, by their rules, of a file of a length. A payload is no longer than its file. All other rules are those of a JPEG
+-- file's segments.
 abbrev pub IsLoadRefusal : ℕ → Rule → Fault → Type 0
 IsLoadRefusal size FileLimit fault = (file_limit < size) × (fault ≡ over_limit size)
 IsLoadRefusal size NotKnown fault = fault ≡ not_known
 IsLoadRefusal size NotBuilt fault = fault ≡ not_built
 IsLoadRefusal size XmpLimit fault = (packet_limit < fault.x) × (fault.x ≤ size) × (fault ≡ over_packet fault.x)
-IsLoadRefusal size rule fault = ⊥
+IsLoadRefusal size rule fault = FaultIn size fault.place.at rule × (fault ≡ fault_at rule File fault.place.at)
 
--- Of a file that is refused for its length no byte is read, and of one that is refused by its kind the first 16.
+-- Of a file that is refused for its length no byte is read, and of one that is refused by its kind the first 16. What else is read
+-- of a file is said by what is spared.
 abbrev pub read_before : Rule → ℕ → ℕ
 read_before FileLimit size = 0
 read_before NotKnown size = 16
@@ -50,6 +57,12 @@ pub record Refusal (s t : DeskState) (name : List ℕ) (fault : Fault) : Type 0 
 
 abbrev pub Refuses : DeskState → DeskState → List ℕ → Result Kept FileStop → Type 0
 Refuses s t name result = (fault : Fault) → result ≡ Err (Refused fault) → Refusal s t name fault
+
+-- why a file that isn't cut is refused
+abbrev pub cut_stop : DeviceStop → FileStop
+cut_stop (cuts.Fault rule place) = Refused (fault_at rule File place)
+cut_stop cuts.Device = Device
+cut_stop cuts.Memory = Memory
 
 -- a payload lies in its file and is within its limit
 abbrev pub PayloadLies : ℕ → Option Piece → Type 0

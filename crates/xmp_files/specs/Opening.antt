@@ -16,7 +16,8 @@ use Rattle.xmp_files.specs.declared.held.Need.TheVariants.{Packet}
 use Rattle.xmp_files.specs.declared.opening.Opened.{Opened}
 use Rattle.xmp_values.specs.Stops.{fault_at}
 use Rattle.xmp_files.specs.Stages.{Followed}
-use Rattle.xmp_files.specs.Keeping.{Piece, Kept}
+use Rattle.xmp_files.specs.Faults.{not_built}
+use Rattle.xmp_files.specs.Keeping.{Piece, Container, Text, Segments, Kept}
 use Rattle.xmp_files.specs.Loading.{IsLoaded}
 
 -- what a text means: the reading of its one document, or the first fault of its XML, else of its RDF, with the rule and its place
@@ -42,9 +43,14 @@ abbrev pub OpensMain : Option Piece → Result Meaning Fault → Type 0
 OpensMain None step = step ≡ Ok no_meaning
 OpensMain (Some payload) step = Opens payload.bytes step
 
--- Then the extended text is joined to what the main packet means. Portions aren't read yet, so there is none.
+-- Then the extended text is joined to what the main packet means. Portions of a JPEG file aren't read yet, so one with a note is refused.
+abbrev pub joined_in : Container → Meaning → Option (List ℕ) → Result Opened Fault
+joined_in Text meaning named = Ok (record { meaning = meaning; joined = false })
+joined_in (Segments regions) meaning None = Ok (record { meaning = meaning; joined = false })
+joined_in (Segments regions) meaning (Some name) = Err not_built
+
 abbrev pub IsJoined : Kept → Meaning → Result Opened Fault → Type 0
-IsJoined kept meaning step = step ≡ Ok (record { meaning = meaning; joined = false })
+IsJoined kept meaning step = step ≡ joined_in kept.container meaning meaning.note
 
 -- what the file means that this was kept of, or the first fault
 abbrev pub IsOpened : Kept → Result Opened Fault → Type 0

@@ -7,7 +7,7 @@ use Rattle.xmp_values.specs.declared.stops.FaultStop.{FaultStop}
 use Rattle.xmp_rdf.specs.declared.meanings.Meaning.{Meaning}
 use Rattle.xmp_files.specs.declared.opening.Opened.{Opened}
 use Rattle.xmp_files.specs.Keeping.{Kept}
-use Rattle.xmp_files.specs.Opening.{Means, IsOpened}
+use Rattle.xmp_files.specs.Opening.{Means, IsJoined, IsOpened}
 
 -- what a text means was answered; want of memory is free
 abbrev pub IsMeant : List ℕ → Result Meaning PlaceStop → Type 0
@@ -16,3 +16,7 @@ IsMeant text result = Answers place_of result (λ meaning. Means text (Ok meanin
 -- the answer is a step of what is kept; want of memory is free
 abbrev pub OpenAnswer : Kept → Result Opened FaultStop → Type 0
 OpenAnswer kept result = Answers fault_of result (λ opened. IsOpened kept (Ok opened)) (λ fault. IsOpened kept (Err fault))
+
+-- what is joined to a meaning is a step of what is kept; want of memory is free
+abbrev pub JoinAnswer : Kept → Meaning → Result Opened FaultStop → Type 0
+JoinAnswer kept meaning result = Answers fault_of result (λ opened. IsJoined kept meaning (Ok opened)) (λ fault. IsJoined kept meaning (Err fault))

@@ -3,7 +3,7 @@ use Rattle.std.specs.Prelude.{◌≡◌, ◌⊎◌, ℕ, ◌+◌, ◌≤◌, ◌
 use Rattle.xmp_values.specs.declared.hints.Hint.{Hint}
 use Rattle.xmp_tree.specs.Parts.{Parts}
 use Rattle.xmp_base.specs.Device.{put_at}
-use Rattle.xmp_files.specs.Keeping.{Piece, Container, Text, Kept}
+use Rattle.xmp_files.specs.Keeping.{Piece, Container, Text, Segments, Kept}
 
 -- What a command makes of a file: the tree that was there, the new one with all hints, and the 16 bytes of the stored digest
 -- where it is renewed. A script gives them, or the sources of reconciling.
@@ -39,9 +39,10 @@ pub record Agree (old new : List ℕ) (pieces : List Piece) : Type 0 where
   pub size : length new ≡ length old
   pub outside : (place : ℕ) → IsOutside pieces place → slice_get new place ≡ slice_get old place
 
--- what a relocation leaves of pictures and of what isn't metadata: a sidecar has neither
+-- what a relocation leaves of pictures and of what isn't metadata: a sidecar has neither, and no JPEG file is relocated yet
 abbrev pub KeepsPictures : Container → List ℕ → List ℕ → Type 0
 KeepsPictures Text old new = Unit {0}
+KeepsPictures (Segments regions) old new = ⊥
 
 -- what a plan leaves of a file
 abbrev pub Frame : Kept → Plan → List ℕ → List ℕ → Type 0
@@ -53,6 +54,8 @@ Frame kept (Relocated file) old new = KeepsPictures kept.container old new
 -- named range, and no stray portion bears the name of a new extended text.
 abbrev pub Apart : Container → Type 0
 Apart Text = Unit {0}
+Apart (Segments regions) = Unit {0}
 
 abbrev pub NoStray : Container → Plan → Type 0
 NoStray Text plan = Unit {0}
+NoStray (Segments regions) plan = Unit {0}

@@ -9,8 +9,8 @@ use Rattle.xmp_packets.specs.Packets.{is_writable}
 use Rattle.xmp_write.specs.declared.forms.Form.{Form}
 use Rattle.xmp_write.specs.Prefixes.{prefixes}
 use Rattle.xmp_write.specs.WrittenPackets.{least_len, canonical_packet}
-use Rattle.xmp_files.specs.Faults.{packet_limit, over_packet}
-use Rattle.xmp_files.specs.Keeping.{Piece, Container, Text, Kept}
+use Rattle.xmp_files.specs.Faults.{packet_limit, over_packet, not_built}
+use Rattle.xmp_files.specs.Keeping.{Piece, Container, Text, Segments, Kept}
 use Rattle.xmp_files.specs.Planning.{Edited, Plan, Same, InPlace, Relocated}
 
 -- every property, and no note
@@ -67,6 +67,7 @@ needs_relocation least room = record { rule = NeedsRelocation; place = record { 
 -- where the digest of the metadata stands, with the new one; a sidecar has none
 abbrev pub digest_pieces : Container → Option (List ℕ) → List Piece
 digest_pieces Text digest = []
+digest_pieces (Segments regions) digest = []
 
 -- what is decided without relocation: the new text is too long, it fits, or it must fit
 abbrev pub unmoved : Option Piece → Container → Bool → Bool → Edited → Option (Result Plan Fault)
@@ -78,6 +79,7 @@ unmoved payload container joined patch e =
 -- The file that has the new packet in another place, or the first fault. A sidecar is nothing but its packet.
 abbrev pub IsRelocation : Container → Edited → Result Plan Fault → Type 0
 IsRelocation Text e step = step ≡ Ok (Relocated (packet_of e (least_of e + padding)))
+IsRelocation (Segments regions) e step = step ≡ Err not_built
 
 abbrev pub OrRelocation : Option (Result Plan Fault) → Container → Edited → Result Plan Fault → Type 0
 OrRelocation (Some known) container e step = step ≡ known
@@ -92,11 +94,20 @@ abbrev pub stays : Container → Option (List ℕ) → Plan
 stays container None = Same
 stays container (Some digest) = InPlace (digest_pieces container (Some digest))
 
+-- what becomes of the file, where its container is written
+abbrev pub IsEdited : Option Piece → Container → Bool → Bool → Edited → Result Plan Fault → Type 0
+IsEdited payload container joined patch e step =
+    ((e.new ≡ e.old) × (step ≡ Ok (stays container e.digest)))
+    ⊎ ((e.new ≢ e.old) × IsMoved payload container joined patch e step)
+
+-- JPEG files aren't written yet
+abbrev pub IsWrittenIn : Container → Option Piece → Bool → Bool → Edited → Result Plan Fault → Type 0
+IsWrittenIn Text payload joined patch e step = IsEdited payload Text joined patch e step
+IsWrittenIn (Segments regions) payload joined patch e step = step ≡ Err not_built
+
 -- what becomes of the file; `joined` says that an extended text was read, and `patch` that the file may not be written anew
 abbrev pub IsPlanned : Kept → Bool → Bool → Edited → Result Plan Fault → Type 0
-IsPlanned kept joined patch e step =
-    ((e.new ≡ e.old) × (step ≡ Ok (stays kept.container e.digest)))
-    ⊎ ((e.new ≢ e.old) × IsMoved kept.payload kept.container joined patch e step)
+IsPlanned kept joined patch e step = IsWrittenIn kept.container kept.payload joined patch e step
 
 -- the length of the new file
 abbrev pub planned_len : ℕ → Plan → ℕ

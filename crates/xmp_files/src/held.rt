@@ -1,11 +1,15 @@
 //! What is kept of a file that was read.
 ghost use Rattle.std.specs.Prelude.{◌≡◌};
+ghost use Rattle.std.specs.Bool.{OnTrue, OnFalse};
 ghost use Rattle.std.specs.Option.{option_copied, option_map};
+ghost use Rattle.jpeg_regions.specs.Jpeg.{Region};
 ghost use Rattle.xmp_packets.specs.Packets.{packet_text};
-ghost use Rattle.xmp_files.specs.Keeping.{sidecar};
+ghost use Rattle.xmp_files.specs.Keeping.{sidecar, photograph, Text, IsSegments};
+ghost use Rattle.xmp_files.specs.Helds.{piece_of};
 ghost use Rattle.xmp_files.specs.Plans.{place_of, room_of};
 ghost use Rattle.xmp_files.specs.Planneds.{bytes_in};
 
+use jpeg_regions::Regions;
 use std::marker::Model;
 use xmp_packets::Packet;
 use xmp_values::Bytes;
@@ -19,20 +23,37 @@ pub enum Need {
     Blocks,
 }
 
+/// The main packet of a JPEG file, and the place where it stands.
+#[derive(Debug, Drop)]
+pub struct MainPacket {
+    pub at: u64,
+    pub bytes: Bytes,
+}
+
+/// How a file is made up, with what is kept of it.
+#[derive(Drop)]
+pub enum Contents {
+    /// A file that is nothing but its packet.
+    Sidecar(Bytes),
+    /// The length of a JPEG file, its regions, and its main packet.
+    Photograph(u64, Regions, Option<MainPacket>),
+}
+
 /// What is kept of a file. Contracts see its kind, its length, its payload with its place, how it
 /// is made up, and what it has of portions and blocks.
-#[derive(Debug, Drop)]
+#[derive(Drop)]
 pub struct Held {
     need: Need,
-    payload: Bytes,
+    contents: Contents,
 }
 
 impl Model for Held {
-    ghost use Rattle.xmp_files.specs.Keeping.{Kept, sidecar};
+    ghost use Rattle.xmp_files.specs.Keeping.{Kept};
+    ghost use Rattle.xmp_files.specs.Helds.{kept_of};
 
     ghost Value = { Kept };
 
-    ghost view = { λ h. sidecar h.need h.payload };
+    ghost view = { λ h. kept_of h.need h.contents };
 }
 
 impl Held {
@@ -42,7 +63,33 @@ impl Held {
     {
         Held {
             need,
-            payload: bytes,
+            contents: Contents::Sidecar(bytes),
+        }
+    }
+
+    /// What is kept of a JPEG file of `size` bytes.
+    pub(crate) fn photograph(
+        need: Need,
+        size: u64,
+        regions: Regions,
+        packet: Option<MainPacket>,
+    ) -> Held
+        ensures { result ≡ photograph need size regions (option_map piece_of packet) }
+    {
+        Held {
+            need,
+            contents: Contents::Photograph(size, regions, packet),
+        }
+    }
+
+    /// Whether the file is nothing but its packet.
+    pub(crate) fn is_sidecar(&self) -> bool
+        ensures yes { OnTrue result (self.now.container ≡ Text) }
+        ensures no { OnFalse result (IsSegments self.now.container) }
+    {
+        match &self.contents {
+            Contents::Sidecar(_) => true,
+            Contents::Photograph(..) => false,
         }
     }
 
@@ -50,44 +97,63 @@ impl Held {
     pub fn payload(&self) -> Option<&[u8]>
         ensures { option_copied result ≡ option_map (λ piece. piece.bytes) self.now.payload }
     {
-        Some(self.payload.as_slice())
+        match &self.contents {
+            Contents::Sidecar(bytes) => Some(bytes.as_slice()),
+            Contents::Photograph(_, _, Some(part)) => Some(part.bytes.as_slice()),
+            Contents::Photograph(_, _, None) => None,
+        }
     }
 
     /// Where the payload of the main packet stands, 0 without one.
     pub(crate) fn payload_place(&self) -> u64
         ensures { result ≡ place_of self.now.payload }
     {
-        let _payload = &self.payload;
-        0
+        match &self.contents {
+            Contents::Photograph(_, _, Some(part)) => part.at,
+            _ => 0,
+        }
     }
 
     /// The length of the payload of the main packet, 0 without one.
     pub(crate) fn payload_len(&self) -> usize
         ensures { result ≡ room_of self.now.payload }
     {
-        self.payload.len()
+        match &self.contents {
+            Contents::Sidecar(bytes) => bytes.len(),
+            Contents::Photograph(_, _, Some(part)) => part.bytes.len(),
+            Contents::Photograph(_, _, None) => 0,
+        }
     }
 
     /// The length of the file.
     pub fn size(&self) -> u64
         ensures { result ≡ self.now.size }
     {
-        self.payload.len() as u64
+        match &self.contents {
+            Contents::Sidecar(bytes) => bytes.len() as u64,
+            Contents::Photograph(size, _, _) => *size,
+        }
     }
 
-    /// The bytes of the packet, which are the whole file.
-    pub(crate) fn whole(&self) -> &[u8]
+    /// The bytes of the main packet, none without one. They are the whole of a sidecar.
+    pub(crate) fn packet(&self) -> &[u8]
         ensures bytes { result.now ≡ bytes_in self.now.payload }
-        ensures sidecar { self.now ≡ sidecar self.now.need result.now }
+        ensures sidecar { self.now.container ≡ Text → self.now ≡ sidecar self.now.need result.now }
     {
-        self.payload.as_slice()
+        match &self.contents {
+            Contents::Sidecar(bytes) => bytes.as_slice(),
+            Contents::Photograph(_, _, Some(part)) => part.bytes.as_slice(),
+            Contents::Photograph(_, _, None) => &[],
+        }
     }
 
     /// The main packet's text: the payload without the zero bytes at its end.
     pub fn text(&self) -> Option<&[u8]>
         ensures { option_copied result ≡ option_map (λ piece. packet_text piece.bytes) self.now.payload }
     {
-        let payload = self.payload.as_slice();
-        Some(&payload[..Packet::of(payload).text_len])
+        match self.payload() {
+            Some(payload) => Some(&payload[..Packet::of(payload).text_len]),
+            None => None,
+        }
     }
 }

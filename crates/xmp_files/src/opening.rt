@@ -1,8 +1,9 @@
 //! What the packet of a file means.
 ghost use Rattle.std.specs.Prelude.{◌≡◌};
 ghost use Rattle.xmp_files.specs.Opening.{no_meaning};
-ghost use Rattle.xmp_files.specs.Openings.{IsMeant, OpenAnswer};
+ghost use Rattle.xmp_files.specs.Openings.{IsMeant, JoinAnswer, OpenAnswer};
 
+use crate::faults::not_built;
 use crate::held::Held;
 use std::alloc::Global;
 use xmp_rdf::{Meaning, RdfStop, tree_of};
@@ -42,6 +43,19 @@ fn no_meaning<'p>(alloc: Global) -> Meaning<'p>
     }
 }
 
+/// What a file means whose main packet means this. An extended text of a JPEG file isn't joined yet.
+fn joined<'h>(held: &Held, meaning: Meaning<'h>) -> Result<Opened<'h>, FaultStop>
+    ensures { JoinAnswer held.now meaning.entry result }
+{
+    if meaning.note.is_some() && !held.is_sidecar() {
+        return Err(FaultStop::Fault(not_built()));
+    }
+    Ok(Opened {
+        meaning,
+        joined: false,
+    })
+}
+
 /// What a file means, or the first fault of its packet: of the XML, else of the RDF. It borrows the texts.
 pub fn read_file<'h>(alloc: Global, held: &'h Held) -> Result<Opened<'h>, FaultStop>
     // The answer is the one step of what is kept of the file, unless memory runs out.
@@ -49,15 +63,9 @@ pub fn read_file<'h>(alloc: Global, held: &'h Held) -> Result<Opened<'h>, FaultS
 {
     match held.text() {
         Some(text) => match meaning_of(alloc, text) {
-            Ok(meaning) => Ok(Opened {
-                meaning,
-                joined: false,
-            }),
+            Ok(meaning) => joined(held, meaning),
             Err(stop) => Err(stop.within(Part::Main)),
         },
-        None => Ok(Opened {
-            meaning: no_meaning(alloc),
-            joined: false,
-        }),
+        None => joined(held, no_meaning(alloc)),
     }
 }

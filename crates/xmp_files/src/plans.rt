@@ -6,9 +6,9 @@ ghost use Rattle.xmp_write.specs.WrittenPackets.{least_len, packet};
 ghost use Rattle.round_trip.specs.Law.{MayWrite};
 ghost use Rattle.xmp_files.specs.Plans.{room_of, put_over, told, fits, planned_len, needs_relocation, whole_form};
 ghost use Rattle.xmp_files.specs.Planneds.{plan_of, outcome_of, MoveAnswer, PlanAnswer, bytes_in, new_packet};
-ghost use Rattle.xmp_files.specs.Keeping.{sidecar};
+ghost use Rattle.xmp_files.specs.Keeping.{sidecar, Text};
 
-use crate::faults::{PACKET_LIMIT, over_packet};
+use crate::faults::{PACKET_LIMIT, not_built, over_packet};
 use crate::held::Held;
 use crate::opening::Opened;
 use std::alloc::Global;
@@ -83,12 +83,12 @@ impl Planned {
         }
     }
 
-    /// The bytes of the new file, which is nothing but its packet.
+    /// The new packet, which is the new file of a sidecar.
     pub(crate) fn bytes<'a>(&'a self, held: &'a Held) -> &'a [u8]
         ensures bytes { result.now ≡ new_packet held.now.payload self.now.plan }
-        ensures sidecar { held.now ≡ sidecar held.now.need (bytes_in held.now.payload) }
+        ensures sidecar { held.now.container ≡ Text → held.now ≡ sidecar held.now.need (bytes_in held.now.payload) }
     {
-        let old = held.whole();
+        let old = held.packet();
         match &self.exchange {
             Exchange::Nothing => old,
             Exchange::Inside(_, bytes) | Exchange::Whole(bytes) => bytes.as_slice(),
@@ -184,7 +184,7 @@ fn change_of(
     hints: &Hints,
     patch: bool,
 ) -> Result<Exchange, FaultStop>
-    ensures step { (old : Parts) → MoveAnswer held.now joined patch (record { old = old; new = tree.now; hints = hints.now; digest = None }) result }
+    ensures step { (old : Parts) → MoveAnswer held.now.payload joined patch (record { old = old; new = tree.now; hints = hints.now; digest = None }) result }
     // the text that was written is one that is read back
     ensures written { IfOk result (λ _. MayWrite tree.now hints.now (whole_form tree.now)) }
 {
@@ -224,6 +224,9 @@ pub fn plan(
     // the text of a tree that changes is one that is read back
     ensures written { IfOk result (λ _. tree.now ≢ opened.now.meaning.tree → MayWrite tree.now hints.now (whole_form tree.now)) }
 {
+    if !held.is_sidecar() {
+        return Err(FaultStop::Fault(not_built()));
+    }
     let old_len = held.size();
     if equal(tree, &opened.meaning.tree) {
         return Ok(Planned {

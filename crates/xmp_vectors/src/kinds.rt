@@ -9,7 +9,6 @@ const NOT_KNOWN: &str = "refused NotKnown file 0 0 0\n";
 /// Whole files of each kind that isn't built, in hexadecimal digits: the segments, directories,
 /// chunks and blocks of the later ones are set apart by `/`.
 const FILES: &str = "\
-JPEG|FF D8 FF D9#\
 TIFF, big-endian|4D 4D 00 2A 00 00 00 08 / 00 02 \
 01 11 00 04 00 00 00 01 00 00 00 26 01 17 00 04 00 00 00 01 00 00 00 04 00 00 00 00 / 01 02 03 04#\
 TIFF, little-endian|49 49 2A 00 08 00 00 00 / 02 00 \
@@ -89,7 +88,7 @@ fn a_long_file_is_refused_by_its_length(rt: HostRuntime) -> Result<(), Fail> {
         (b"", 1_099_511_627_777, over_file),
         (b"", 1_099_511_627_776, NOT_KNOWN),
         (b"<", 16_777_217, over_packet),
-        (b"\xFF\xD8\xFF\xD9", 16_777_217, NOT_BUILT),
+        (b"MM\x00\x2A", 16_777_217, NOT_BUILT),
     ];
     for (front, length, line) in cases {
         let is_refused = both_refuse_length(rt.alloc(), front, length, line)?;

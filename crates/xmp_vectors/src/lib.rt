@@ -15,6 +15,8 @@ mod kinds;
 #[cfg(test)]
 mod made_trees;
 #[cfg(test)]
+mod photographs;
+#[cfg(test)]
 mod round_trips;
 #[cfg(test)]
 mod runs;

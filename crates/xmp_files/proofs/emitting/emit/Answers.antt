@@ -1,6 +1,6 @@
 use Rattle.std.proofs.Common.{ap, ◌∙◌, ℕ, List, length}
 use Rattle.xmp_base.proofs.Ends.{created_known, created_len}
-use Rattle.xmp_files.proofs.Emits.{emit_unmade, emit_put, planned_bytes, planned_size}
+use Rattle.xmp_files.proofs.Emits.{emit_unmade, emit_put, planned_text, planned_bytes, planned_size}
 use Rattle.xmp_files.proofs.emitting.emit.Goals as goal
 
 pub returns-in_err-create : goal.returns-in_err-create
@@ -15,8 +15,9 @@ put_pieces-requires-clause-at_end g c = created_len _ _ _ c.in_ok-create.ensures
 pub returns : goal.returns
 returns g c =
     let s = g.D.Desk.state c.args.desk.now in
-    let bytes = planned_bytes s c.args.held.now c.args.plan.now.plan c.args.from.now c.requires.loaded c.requires.planned c.bytes-bytes.ensures.sidecar in
-    let size = planned_size s c.args.held.now c.args.plan.now.plan c.args.from.now c.requires.loaded c.requires.planned c.bytes-bytes.ensures.sidecar in
+    let form = c.bytes-bytes.ensures.sidecar (planned_text c.args.held.now c.args.plan.now.plan c.requires.planned) in
+    let bytes = planned_bytes s c.args.held.now c.args.plan.now.plan c.args.from.now c.requires.loaded c.requires.planned form in
+    let size = planned_size s c.args.held.now c.args.plan.now.plan c.args.from.now c.requires.loaded c.requires.planned form in
     record {
       call = emit_put _ _ _ _ _ c.in_ok-create.ensures.call _ _ _ _ c.put_pieces.ensures.call
           (λ files told. c.bytes-bytes.ensures.bytes ∙ bytes files told) (ap (λ (l : List ℕ). length l) c.bytes-bytes.ensures.bytes ∙ size);
