@@ -76,6 +76,11 @@ const DATES: [(&str, &str, &str, &str); 13] = [
     (" 2021:03:04 05:06:07", "", "", ""),
 ];
 
+/// The tags that are read.
+const TAGS: [u16; 12] = [
+    0x010e, 0x0132, 0x013b, 0x8298, 0x9003, 0x9004, 0x9010, 0x9011, 0x9012, 0x9290, 0x9291, 0x9292,
+];
+
 /// The text of a property's value, or nothing.
 fn text(fields: &ExifFields, property: usize, i: usize) -> &[u8] {
     fields.text(property, i).unwrap_or(b"")
@@ -141,5 +146,16 @@ fn artists_and_owners_are_parted(rt: HostRuntime) -> Result<(), Fail> {
     assert_eq!(rt; text(&editor, 1, 0), b"Ed".as_slice());
     let owner = fields_with(rt.alloc(), 0x8298, b"Ow\0Ed\0")?;
     assert_eq!(rt; text(&owner, 1, 0), b"Ow".as_slice());
+    Ok(())
+}
+
+#[test]
+fn a_first_entry_of_another_type_has_no_value(rt: HostRuntime) -> Result<(), Fail> {
+    for tag in TAGS {
+        let mut raw = RawExif::new(rt.alloc());
+        raw.pass(tag)?;
+        raw.take(tag, b"2021:03:04 05:06:07")?;
+        assert!(rt; raw.value(tag).is_none());
+    }
     Ok(())
 }
