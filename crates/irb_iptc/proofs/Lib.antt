@@ -1,6 +1,7 @@
 pub mod Blocks
 pub mod Counting
 pub mod Digests
+pub mod Exchanged
 pub mod Heads
 pub mod Listed
 pub mod Marked

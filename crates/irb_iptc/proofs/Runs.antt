@@ -8,7 +8,7 @@ use Rattle.irb_iptc.specs.Listing.{Placed, Lists, Broken, place, placed}
 use Rattle.irb_iptc.specs.Reading.{IsFound, Underway, place_of}
 
 -- how many bytes the blocks take
-pub room_of : List Resource → ℕ
+unfoldable pub room_of : List Resource → ℕ
 room_of rs = length (flat_map text rs)
 
 -- one block more

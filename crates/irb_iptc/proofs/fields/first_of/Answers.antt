@@ -1,6 +1,4 @@
-use Rattle.std.proofs.Common.{◌≡◌, ◌+◌, ◌<◌, ℕ, List, length, drop, Option, Some, None, sym, ap, ◌∙◌, arith}
-use Rattle.std.specs.Option.{option_or}
-use Rattle.irb_iptc.specs.Fields.{first_of}
+use Rattle.std.proofs.Common.{◌<◌, length, Some, None, sym, ◌∙◌, arith}
 use Rattle.irb_iptc.proofs.Values.{first_step}
 use Rattle.irb_iptc.proofs.fields.first_of.Goals as goal
 
