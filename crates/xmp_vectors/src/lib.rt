@@ -9,6 +9,10 @@
 mod commands;
 #[cfg(test)]
 mod devices;
+#[cfg(test)]
+mod editing;
+#[cfg(test)]
+mod failing;
 mod files;
 #[cfg(test)]
 mod kinds;

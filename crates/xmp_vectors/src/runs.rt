@@ -145,6 +145,97 @@ pub fn run_over(alloc: Global, list: &[&str], file: &[u8]) -> Result<Ran, Memory
     Ok(Ran { status, out, err })
 }
 
+/// How a run of a command that writes `out` ended, and what it left.
+#[derive(Drop)]
+pub struct Edited {
+    ran: Ran,
+    desk: MemoryDesk,
+}
+
+impl Edited {
+    /// Whether it ended with the status that this line tells, and sent this text and this line.
+    pub fn ended(&self, text: &str, line: &str) -> bool {
+        self.ran.ended(text, line)
+    }
+
+    pub fn is_done(&self) -> bool {
+        is_told(self.ran.status, "")
+    }
+
+    pub fn out(&self) -> Option<&[u8]> {
+        self.desk.bytes_of("out")
+    }
+
+    /// Whether `out` has these bytes.
+    pub fn wrote(&self, bytes: &[u8]) -> bool {
+        match self.out() {
+            Some(out) => out == bytes,
+            None => false,
+        }
+    }
+
+    pub fn wrote_none(&self) -> bool {
+        self.out().is_none()
+    }
+
+    /// Whether `out` is as these bytes begin, or isn't there.
+    pub fn began(&self, bytes: &[u8]) -> bool {
+        match self.out() {
+            Some(out) => bytes.starts_with(out),
+            None => true,
+        }
+    }
+
+    /// Whether this text stands in `out`.
+    pub fn has(&self, text: &str) -> bool {
+        match self.out() {
+            Some(out) => text.is_empty()
+                || out.windows(text.len()).any(|part| part == text.as_bytes()),
+            None => false,
+        }
+    }
+
+    /// Whether these lines stand in what `tree` sends of `out`.
+    pub fn shows(&self, alloc: Global, lines: &str) -> Result<bool, Memory> {
+        let Some(out) = self.out() else {
+            return Ok(false);
+        };
+        let ran = run_over(alloc, &["tree", "a.xmp"], out)?;
+        let sent = ran.out.sent();
+        Ok(
+            is_told(ran.status, "")
+                && sent
+                    .windows(lines.len().max(1))
+                    .any(|part| part == lines.as_bytes()),
+        )
+    }
+}
+
+/// Runs the words over `a.xmp` and `script`, on a desk that moves at most 64 bytes a call.
+pub fn run_edit(
+    alloc: Global,
+    list: &[&str],
+    file: &[u8],
+    script: &[u8],
+    plan: Plan,
+) -> Result<Edited, Memory> {
+    let words = words_of(alloc, list)?;
+    let mut desk = MemoryDesk::new(alloc);
+    desk.add("a.xmp", file)?;
+    desk.add("script", script)?;
+    desk.cut(64);
+    if plan.desk > 0 {
+        desk.fail(plan.desk)?;
+    }
+    let mut out = sink_of(alloc, plan.out)?;
+    let mut err = sink_of(alloc, plan.err)?;
+    let status = run_in_memory(alloc, &words, &mut desk, &mut out, &mut err);
+    Ok(Edited {
+        ran: Ran { status, out, err },
+        desk,
+    })
+}
+
 /// Runs the words over `a.xmp` of this length, which begins so and is zeros behind that.
 pub fn run_length(alloc: Global, list: &[&str], front: &[u8], length: u64) -> Result<Ran, Memory> {
     let words = words_of(alloc, list)?;
