@@ -81,7 +81,7 @@ fn is_special(name: &Name<'_>) -> bool
     is_lang(name) || is_type(name)
 }
 
-/// Whether no path has the step, with these behind it.
+/// Whether no path has the step, with these after it.
 fn is_reserved_step(step: &Step, more: &[Step]) -> bool
     ensures { result ≡ is_reserved_step step.now more.now }
 {

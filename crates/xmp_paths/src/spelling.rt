@@ -88,7 +88,7 @@ fn bracketed(text: &[u8]) -> Option<&[u8]>
     }
 }
 
-/// A step by its text behind `/`.
+/// A step by its text after `/`.
 fn member_step<'t>(text: &'t [u8]) -> Option<SpelledStep<'t>>
     ensures { result ≡ member_step text.now }
 {

@@ -1,4 +1,3 @@
-pub mod Packets
 pub mod Written
 pub mod Prefixes
 pub mod PrefixLaws

@@ -4,7 +4,7 @@ ghost use Rattle.std.specs.Prelude.{◌≡◌, None, length};
 use xmp_tree::Tree;
 use xmp_values::Digits;
 
-/// `count` properties of a tree from `first` on, behind the note if it is written.
+/// `count` properties of a tree from `first` on, after the note if it is written.
 #[derive(Drop)]
 pub struct Form {
     /// The place of the first property, from 0.

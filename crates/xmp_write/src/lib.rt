@@ -27,4 +27,3 @@ pub use listing::{lines, value_lines};
 pub use prefixes::Prefixes;
 pub use splits::{Split, SplitStop};
 pub use writing::{measure, packet_into, pad_into, write_into};
-pub use xmp_packets::{Packet, PacketInfo};

@@ -119,7 +119,7 @@ impl Writer {
         Ok(())
     }
 
-    /// Goes on to a name behind the path.
+    /// Goes on to a name after the path.
     fn enter(&mut self, prefixes: &Prefixes<'_>, name: &Name<'_>) -> Result<(), Memory>
         ensures text { self.new.text.items ≡ self.old.text.items }
         ensures path { OnOk result (self.new.path.items ≡ self.old.path.items ++ spelled prefixes.now name.now) }
@@ -127,7 +127,7 @@ impl Writer {
         push_name(&mut self.path, prefixes, name)
     }
 
-    /// Goes on to an item behind the path.
+    /// Goes on to an item after the path.
     fn enter_item(&mut self, number: usize) -> Result<(), Memory>
         ensures text { self.new.text.items ≡ self.old.text.items }
         ensures path { OnOk result (self.new.path.items ≡ item_path self.old.path.items number) }
@@ -161,7 +161,7 @@ fn push_shape(writer: &mut Writer, prefixes: &Prefixes<'_>, shape: &Shape<'_>) -
     }
 }
 
-/// Puts the lines of members whose names stand behind the path and a separator.
+/// Puts the lines of members whose names stand after the path and a separator.
 #[cycle(lines)]
 fn push_members(
     writer: &mut Writer,
@@ -242,7 +242,7 @@ pub fn lines(alloc: Global, tree: &Tree<'_>, prefixes: &Prefixes<'_>) -> Result<
 }
 
 impl Writer {
-    /// Goes on to a step behind the path, from a value in which it leads to one.
+    /// Goes on to a step after the path, from a value in which it leads to one.
     fn step(
         &mut self,
         prefixes: &Prefixes<'_>,

@@ -1,6 +1,6 @@
-//! Pieces of a text as they are put into a slice, one behind the other.
+//! Pieces of a text as they are put into a slice, one after the other.
 //!
-//! Each call takes the slice and a place, and gives the place behind what it put. The slice takes
+//! Each call takes the slice and a place, and gives the place after what it put. The slice takes
 //! as much as it has room for, so that an empty one measures.
 ghost use Rattle.std.specs.Prelude.{◌≡◌, ◌++◌, ◌∷◌, [], codes, unwrap_or, IsTrue};
 ghost use Rattle.std.specs.Option.{option_copied};
@@ -83,7 +83,7 @@ pub fn put_escaped(to: &mut [u8], at: u64, text: &[u8], place: Escape) -> u64
     behind
 }
 
-/// Puts an attribute behind a space.
+/// Puts an attribute after a space.
 pub fn put_attribute(to: &mut [u8], at: u64, name: Spelled<'_>, value: &[u8]) -> u64
     ensures { Puts to.old to.new at result (attribute_text (spelled_name name.entry) value.now) }
 {

@@ -84,7 +84,7 @@ impl<'t> Prefixes<'t> {
         self.list.get(at)
     }
 
-    /// The prefix at a place; none behind the last.
+    /// The prefix at a place; none after the last.
     fn prefix_at(&self, place: usize) -> &[u8]
         ensures { result.now ≡ unwrap_or (option_map (λ h. h.prefix) (slice_get self.now place)) [] }
     {

@@ -85,7 +85,7 @@ const DIGITS: &str = "0123456789ABCDEF0123456789ABCDEF";
 const NOTED: &str = " xmlns:xmpNote=\"http://ns.adobe.com/xmp/note/\" xmlns:ns1=\"urn:a\">\n\
 <xmpNote:HasExtendedXMP>0123456789ABCDEF0123456789ABCDEF</xmpNote:HasExtendedXMP>\n<ns1:b>x</ns1:b>\n";
 
-/// The text of the second property behind the note.
+/// The text of the second property after the note.
 fn noted(alloc: Global) -> Result<Vec<u8>, Memory> {
     let form = Form {
         first: 1,

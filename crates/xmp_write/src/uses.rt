@@ -11,7 +11,7 @@ use std::alloc::Global;
 use xmp_tree::{Member, Shape, Tree, Value};
 use xmp_values::{Digits, Memory, TextSet};
 
-/// Puts a namespace behind those used before, unless it is there or is fixed.
+/// Puts a namespace after those used before, unless it is there or is fixed.
 fn use_space<'t>(uses: &mut TextSet<'t>, space: &'t [u8]) -> Result<(), Memory>
     ensures { OnOk result (uses.new ≡ with_use uses.old space.now) }
 {
@@ -21,7 +21,7 @@ fn use_space<'t>(uses: &mut TextSet<'t>, space: &'t [u8]) -> Result<(), Memory>
     Ok(())
 }
 
-/// Puts the namespaces of a written value behind those used before.
+/// Puts the namespaces of a written value after those used before.
 #[cycle(uses)]
 fn use_value<'t>(uses: &mut TextSet<'t>, value: &'t Value<'_>) -> Result<(), Memory>
     ensures { OnOk result (uses.new ≡ fold with_use uses.old (value_spaces value.now)) }
@@ -69,7 +69,7 @@ fn use_items<'t>(uses: &mut TextSet<'t>, items: &'t [Value<'_>]) -> Result<(), M
     Ok(())
 }
 
-/// Puts the namespace of the note behind those used before.
+/// Puts the namespace of the note after those used before.
 #[tactic(auto, unfolding(xmp_tree::specs::Wf::note_name))]
 pub fn use_note_space(uses: &mut TextSet<'_>) -> Result<(), Memory>
     ensures { OnOk result (uses.new ≡ with_use uses.old note_name.space) }
@@ -77,7 +77,7 @@ pub fn use_note_space(uses: &mut TextSet<'_>) -> Result<(), Memory>
     use_space(uses, b"http://ns.adobe.com/xmp/note/")
 }
 
-/// Puts the namespace of the note, where it is written, behind those used before.
+/// Puts the namespace of the note, where it is written, after those used before.
 fn use_note<'t>(uses: &mut TextSet<'t>, note: &Option<Digits>) -> Result<(), Memory>
     ensures { OnOk result (uses.new ≡ fold with_use uses.old (note_spaces note.now)) }
 {
