@@ -100,7 +100,7 @@ impl Dirs {
         best
     }
 
-    /// The best with the directories behind the first, and the values of their entries.
+    /// The best with the directories after the first, and the values of their entries.
     fn closest_directory(&self, own: FileSpan, best: Option<FileSpan>) -> Option<FileSpan>
         ensures { result ≡ closest own best (flat_map (λ d. named_in self.now.layout d d.entries) (drop 1 self.now.dirs)) }
     {

@@ -36,8 +36,8 @@ returns-in-Err-take_pictures-clause-calls g c =
     let back = sym c.fetch.ensures.call.calls.same.files in
     reads_trans name _ _ _ (λ file. tables_at l file c.args.at)
     (body_read (g.D.Desk.state c.args.desk.now) (g.D.Desk.state c.fetch.new.desk) name l c.args.at c.args.count c.fetch.ensures.call.calls c.requires.count)
-    (values_read (g.D.Desk.state c.fetch.new.desk) (g.D.Desk.state c.take_pictures.new.desk) name l c.args.at c.as_slice-2.result.now c.take_pictures.ensures.calls
-    (λ files told. c.as_slice-2.ensures.value ∙ c.in-Ok-read_entries.ensures.0
+    (values_read (g.D.Desk.state c.fetch.new.desk) (g.D.Desk.state c.take_pictures.new.desk) name l c.args.at c.as_slice-list.result.now c.take_pictures.ensures.calls
+    (λ files told. c.as_slice-list.ensures.value ∙ c.in-Ok-read_entries.ensures.0
     ∙ entries_known l (bytes_of files name) c.as_slice.result.now c.args.at c.args.count (c.as_slice.ensures ∙ c.in-Ok.ensures.call.bytes files (back ∙ told)) (c.requires.count files (back ∙ told)) c.requires.widths))
 
 pub returns-in-Err-take_pictures-clause-answer : goal.returns-in-Err-take_pictures-clause-answer
@@ -53,7 +53,7 @@ returns-in-Err-take_pictures-clause-answer g c = λ files told.
     ∙ entries_known l file c.as_slice.result.now c.args.at c.args.count (c.as_slice.ensures ∙ c.in-Ok.ensures.call.bytes files told) (c.requires.count files told) c.requires.widths in
     subst (λ (es : List Entry). StopsAt (inner_fault l file first es) stop) known
     (body_by_pictures l file len first items stop (c.requires.told files told) (ap (entries_fault l len first false) read.0 ∙ read.1)
-    (subst (λ (es : List Entry). StopsAt (pictures_fault len (pictures_of l file es)) stop) c.as_slice-2.ensures.value
+    (subst (λ (es : List Entry). StopsAt (pictures_fault len (pictures_of l file es)) stop) c.as_slice-list.ensures.value
     (c.in-Err-take_pictures.ensures.answer files (c.fetch.ensures.call.calls.same.files ∙ told))))
 
 pub returns-in-Ok-reach_children-clause-calls : goal.returns-in-Ok-reach_children-clause-calls
@@ -65,11 +65,11 @@ returns-in-Ok-reach_children-clause-calls g c =
     reads_trans name _ _ _ (λ file. tables_at l file c.args.at)
     (body_read (g.D.Desk.state c.args.desk.now) (g.D.Desk.state c.fetch.new.desk) name l c.args.at c.args.count c.fetch.ensures.call.calls c.requires.count)
     (reads_trans name _ _ _ (λ file. tables_at l file c.args.at)
-    (values_read (g.D.Desk.state c.fetch.new.desk) (g.D.Desk.state c.take_pictures.new.desk) name l c.args.at c.as_slice-2.result.now c.take_pictures.ensures.calls
-    (λ files told. c.as_slice-2.ensures.value ∙ c.in-Ok-read_entries.ensures.0
+    (values_read (g.D.Desk.state c.fetch.new.desk) (g.D.Desk.state c.take_pictures.new.desk) name l c.args.at c.as_slice-list.result.now c.take_pictures.ensures.calls
+    (λ files told. c.as_slice-list.ensures.value ∙ c.in-Ok-read_entries.ensures.0
     ∙ entries_known l (bytes_of files name) c.as_slice.result.now c.args.at c.args.count (c.as_slice.ensures ∙ c.in-Ok.ensures.call.bytes files (back ∙ told)) (c.requires.count files (back ∙ told)) c.requires.widths))
-    (values_read (g.D.Desk.state c.take_pictures.new.desk) (g.D.Desk.state c.reach_children.new.desk) name l c.args.at c.as_slice-3.result.now c.reach_children.ensures.calls
-    (λ files told. c.as_slice-3.ensures.value ∙ c.in-Ok-read_entries.ensures.0
+    (values_read (g.D.Desk.state c.take_pictures.new.desk) (g.D.Desk.state c.reach_children.new.desk) name l c.args.at c.as_slice-list.result.now c.reach_children.ensures.calls
+    (λ files told. c.as_slice-list.ensures.value ∙ c.in-Ok-read_entries.ensures.0
     ∙ entries_known l (bytes_of files name) c.as_slice.result.now c.args.at c.args.count (c.as_slice.ensures ∙ c.in-Ok.ensures.call.bytes files (back2 ∙ told)) (c.requires.count files (back2 ∙ told)) c.requires.widths)))
 
 pub returns-clause-calls : goal.returns-clause-calls
@@ -81,11 +81,11 @@ returns-clause-calls g c =
     reads_trans name _ _ _ (λ file. tables_at l file c.args.at)
     (body_read (g.D.Desk.state c.args.desk.now) (g.D.Desk.state c.fetch.new.desk) name l c.args.at c.args.count c.fetch.ensures.call.calls c.requires.count)
     (reads_trans name _ _ _ (λ file. tables_at l file c.args.at)
-    (values_read (g.D.Desk.state c.fetch.new.desk) (g.D.Desk.state c.take_pictures.new.desk) name l c.args.at c.as_slice-2.result.now c.take_pictures.ensures.calls
-    (λ files told. c.as_slice-2.ensures.value ∙ c.in-Ok-read_entries.ensures.0
+    (values_read (g.D.Desk.state c.fetch.new.desk) (g.D.Desk.state c.take_pictures.new.desk) name l c.args.at c.as_slice-list.result.now c.take_pictures.ensures.calls
+    (λ files told. c.as_slice-list.ensures.value ∙ c.in-Ok-read_entries.ensures.0
     ∙ entries_known l (bytes_of files name) c.as_slice.result.now c.args.at c.args.count (c.as_slice.ensures ∙ c.in-Ok.ensures.call.bytes files (back ∙ told)) (c.requires.count files (back ∙ told)) c.requires.widths))
-    (values_read (g.D.Desk.state c.take_pictures.new.desk) (g.D.Desk.state c.reach_children.new.desk) name l c.args.at c.as_slice-3.result.now c.reach_children.ensures.calls
-    (λ files told. c.as_slice-3.ensures.value ∙ c.in-Ok-read_entries.ensures.0
+    (values_read (g.D.Desk.state c.take_pictures.new.desk) (g.D.Desk.state c.reach_children.new.desk) name l c.args.at c.as_slice-list.result.now c.reach_children.ensures.calls
+    (λ files told. c.as_slice-list.ensures.value ∙ c.in-Ok-read_entries.ensures.0
     ∙ entries_known l (bytes_of files name) c.as_slice.result.now c.args.at c.args.count (c.as_slice.ensures ∙ c.in-Ok.ensures.call.bytes files (back2 ∙ told)) (c.requires.count files (back2 ∙ told)) c.requires.widths)))
 
 pub returns-in-Ok-reach_children-clause-answer : goal.returns-in-Ok-reach_children-clause-answer
@@ -109,8 +109,8 @@ returns-in-Ok-reach_children-clause-answer g c = λ files told.
     body_known l file first at n len next (at + l.count + l.entry * n + l.word) old c.reach_children.new.reached.items seen shown _ items (c.requires.told files told) count
     (read.0 ∙ entries_known l file c.as_slice.result.now at n is count c.requires.widths)
     (ap (entries_fault l len first false) read.0 ∙ read.1)
-    (subst (λ (es : List Entry). (shown ≡ seen ++ spans_of (pictures_of l file es)) × (pictures_fault len (pictures_of l file es) ≡ None)) c.as_slice-2.ensures.value
+    (subst (λ (es : List Entry). (shown ≡ seen ++ spans_of (pictures_of l file es)) × (pictures_fault len (pictures_of l file es) ≡ None)) c.as_slice-list.ensures.value
     (c.in-Ok-take_pictures.ensures.answer files mid))
     (c.number_at-next.ensures ∙ next_known l file c.as_slice.result.now at n is count)
-    (c.in-Ok-reach_children.ensures.reached files last ∙ ap (λ (es : List Entry). capped (old ++ (flat_map (named l file) es ++ chained next))) c.as_slice-3.ensures.value)
+    (c.in-Ok-reach_children.ensures.reached files last ∙ ap (λ (es : List Entry). capped (old ++ (flat_map (named l file) es ++ chained next))) c.as_slice-list.ensures.value)
     refl refl refl
