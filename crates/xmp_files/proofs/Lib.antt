@@ -11,3 +11,4 @@ pub mod Writes
 pub mod OnePlan
 pub mod LoadedKept
 pub mod MayBeWritten
+pub mod Patches

@@ -1,13 +1,13 @@
 -- A JPEG file is cut into its regions, and its main packet is read.
-use Rattle.std.proofs.Common.{◌≡◌, ◌≢◌, ℕ, ◌+◌, ◌-◌, ◌<◌, ◌≤◌, min, Bool, true, false, cond, List, [], ◌∷◌, ◌++◌, length, take, drop, get_or, refl, sym, ap, ◌∙◌, subst, arith, Ok, Err, Some, None, IsTrue, if◌then◌else◌}
+use Rattle.std.proofs.Common.{◌≡◌, ◌≢◌, ℕ, ◌+◌, ◌-◌, ◌<◌, ◌≤◌, min, Bool, true, false, List, [], ◌∷◌, length, take, drop, get_or, refl, sym, ap, ◌∙◌, subst, arith, Ok, Err, Some, None, if◌then◌else◌}
 use Rattle.std.specs.declared.option.Option.{Option}
 use Rattle.std.specs.declared.result.Result.{Result}
 use Rattle.std.specs.FinMap.{get}
 use Rattle.std.specs.Option.{option_map, unwrap_or, ok_or}
-use Rattle.std.specs.Prelude.{IfOk, IsOk, nat_eq, nat_lt, ◌&&◌, slice_get}
+use Rattle.std.specs.Prelude.{IsOk, nat_eq, nat_lt, ◌&&◌, slice_get}
 use Rattle.std.proofs.lemmas.Bool.{and_parts, eqb-true, lt-ltb, le-ltb, cond-true, cond-false}
 use Rattle.std.proofs.lemmas.List.{length-take-le, length-drop}
-use Rattle.xmp_base.specs.Device.{DeskState, Lens, Moved, Told, bytes_of, len_of, is_known, Rose}
+use Rattle.xmp_base.specs.Device.{DeskState, Lens, Moved, Told, bytes_of, len_of, Rose}
 use Rattle.xmp_base.specs.Windows.{MovesInside, ReadInside, WindowCall}
 use Rattle.xmp_base.specs.declared.file_span.FileSpan.{FileSpan}
 use Rattle.xmp_base.specs.declared.windows.WindowStop.{WindowStop}
@@ -23,7 +23,7 @@ use Rattle.xmp_values.specs.declared.stops.DeviceStop.TheVariants as cuts
 use Rattle.xmp_values.specs.declared.stops.FileStop.{FileStop}
 use Rattle.xmp_values.specs.declared.stops.FileStop.TheVariants.{Fault as Refused, Device, Memory}
 use Rattle.xmp_values.specs.Stops.{fault_at}
-use Rattle.jpeg_regions.specs.Jpeg.{Region, Cuts, Jpeg as IsJpeg, FaultIn, no_tail, bad_marker, bad_length, truncated, two_packets, mains, is_main}
+use Rattle.jpeg_regions.specs.Jpeg.{Region, Jpeg as IsJpeg, FaultIn, no_tail, bad_marker, bad_length, truncated, two_packets, mains, is_main}
 use Rattle.jpeg_regions.specs.Cutting.{BeginsJpeg, Tiles}
 use Rattle.jpeg_regions.specs.FromDesk.{near_end, IsNear, CutCalls, CutKnownCall}
 use Rattle.jpeg_regions.proofs.Places.{cuts_tile, lies, one_place, MainAt, main_at}
@@ -33,13 +33,13 @@ use Rattle.xmp_files.specs.declared.kinds.Kind.TheVariants.{Jpeg, Tiff, BigTiff,
 use Rattle.xmp_files.specs.declared.held.Need.{Need}
 use Rattle.xmp_files.specs.Faults.{file_limit, over_limit, not_known, packet_limit, over_packet}
 use Rattle.xmp_files.specs.Kinds.{kind_of, is_jpeg}
-use Rattle.xmp_files.specs.Stages.{followed, Followed}
+use Rattle.xmp_files.specs.Stages.{followed}
 use Rattle.xmp_files.specs.Keeping.{Piece, Segments, Kept, photograph}
 use Rattle.xmp_files.specs.Photographs.{piece_at, main_payload, packet_range, main_packet, IsCut}
-use Rattle.xmp_files.specs.Loading.{within, known, kind_of_file, limited, limited_by, IsContained, IsKept}
+use Rattle.xmp_files.specs.Loading.{known, kind_of_file, limited_by, IsContained}
 use Rattle.xmp_files.specs.Sparing.{IsUnread, Spares, HasContainer, Spared}
-use Rattle.xmp_files.specs.Loads.{SizedCall, Refusal, IsLoadRefusal, PayloadLies, IsOfSize, read_before, cut_stop}
-use Rattle.xmp_files.proofs.Loads.{Sized, sized_refusal, known_as, by_known, spared_trans, inside_idle}
+use Rattle.xmp_files.specs.Loads.{SizedCall, IsLoadRefusal, PayloadLies, IsOfSize, read_before, cut_stop}
+use Rattle.xmp_files.proofs.Loads.{Sized, sized_refusal, known_as, by_known, spared_trans}
 
 -- Kinds.
 

@@ -17,7 +17,7 @@ use Rattle.xmp_values.specs.declared.stops.FaultStop.TheVariants as faults
 use Rattle.jpeg_regions.specs.Jpeg.{Region}
 use Rattle.xmp_files.specs.Faults.{not_built}
 use Rattle.xmp_files.specs.Keeping.{Piece, Container, Text, Segments, IsSegments, Kept}
-use Rattle.xmp_files.specs.Opening.{Means, OpensMain, IsOpened, joined_in, in_main, no_meaning}
+use Rattle.xmp_files.specs.Opening.{Means, OpensMain, joined_in, in_main, no_meaning}
 use Rattle.xmp_files.specs.Openings.{IsMeant, JoinAnswer, OpenAnswer}
 
 abbrev opened : Meaning → Opened

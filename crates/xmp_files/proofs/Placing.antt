@@ -16,7 +16,7 @@ use Rattle.xmp_values.specs.declared.stops.FaultStop.{FaultStop}
 use Rattle.xmp_values.specs.declared.stops.FaultStop.TheVariants as faults
 use Rattle.xmp_files.specs.Keeping.{Piece, Container, Text, Segments, IsSegments, Kept}
 use Rattle.jpeg_regions.specs.Jpeg.{Region}
-use Rattle.xmp_files.specs.Planning.{Edited, Plan, Same, InPlace, Relocated}
+use Rattle.xmp_files.specs.Planning.{Edited, Plan, Same, InPlace}
 use Rattle.xmp_files.specs.Plans.{packet_of, room_of, put_over, told, padding, least_of, whole_form, unmoved, OrRelocation, IsMoved, IsEdited, IsWrittenIn, IsPlanned, stays, fits, exchanged, digest_pieces}
 use Rattle.xmp_files.specs.Planneds.{MoveAnswer, PlanAnswer}
 

@@ -1,5 +1,4 @@
 -- How what is kept of a file is seen by contracts.
-use Rattle.std.specs.Prelude.{ℕ}
 use Rattle.std.specs.Option.{option_map}
 use Rattle.xmp_files.specs.declared.held.Need.{Need}
 use Rattle.xmp_files.specs.declared.held.MainPacket.{MainPacket}

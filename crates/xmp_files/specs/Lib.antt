@@ -14,3 +14,4 @@ pub mod Emitting
 pub mod Loads
 pub mod Openings
 pub mod Written
+pub mod Patching

@@ -8,6 +8,7 @@ ghost use Rattle.xmp_files.specs.Keeping.{Kept};
 ghost use Rattle.xmp_files.specs.Loading.{IsLoaded};
 ghost use Rattle.xmp_files.specs.Opening.{IsOpened, Holds};
 ghost use Rattle.xmp_files.specs.Written.{SidecarIsWritten};
+ghost use Rattle.xmp_files.specs.Patching.{SidecarIsPatched};
 
 /// What is kept of a file is one thing, or its first fault is one.
 pub fn one_kept()
@@ -27,4 +28,9 @@ pub fn one_meaning()
 /// A sidecar that is written by a plan is read as the new tree, and keeps what the plan says.
 pub fn sidecar_is_written()
     ensures { SidecarIsWritten }
+{}
+
+/// A sidecar that is patched is read as the old tree, as the new one, or it is refused.
+pub fn sidecar_is_patched()
+    ensures { SidecarIsPatched }
 {}

@@ -20,13 +20,15 @@ mod laws;
 mod load_tests;
 mod loading;
 mod opening;
+mod patching;
 mod plans;
 
 pub use emitting::emit;
 pub use faults::{no_file, not_built};
 pub use held::{Held, Need};
-pub use laws::{one_kept, one_meaning, one_opened, sidecar_is_written};
+pub use laws::{one_kept, one_meaning, one_opened, sidecar_is_patched, sidecar_is_written};
 pub use loading::load;
 pub use opening::{Opened, read_file};
+pub use patching::patch;
 pub use plans::{Outcome, Planned, plan};
 pub use xmp_values::{FaultStop as OpenStop, FileStop as LoadStop};

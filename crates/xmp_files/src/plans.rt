@@ -7,6 +7,8 @@ ghost use Rattle.round_trip.specs.Law.{MayWrite};
 ghost use Rattle.xmp_files.specs.Plans.{room_of, put_over, told, fits, planned_len, needs_relocation, whole_form};
 ghost use Rattle.xmp_files.specs.Planneds.{plan_of, outcome_of, MoveAnswer, PlanAnswer, bytes_in, new_packet};
 ghost use Rattle.xmp_files.specs.Keeping.{sidecar, Text};
+ghost use Rattle.xmp_files.specs.Patching.{new_payload};
+ghost use Rattle.std.specs.Option.{option_copied};
 
 use crate::faults::{PACKET_LIMIT, not_built, over_packet};
 use crate::held::Held;
@@ -80,6 +82,16 @@ impl Planned {
         match &self.exchange {
             Exchange::Nothing | Exchange::Inside(..) => self.old_len,
             Exchange::Whole(file) => file.len() as u64,
+        }
+    }
+
+    /// The new packet of a plan that exchanges it in its place.
+    pub(crate) fn new_payload(&self) -> Option<&[u8]>
+        ensures { option_copied result ≡ new_payload self.now.plan }
+    {
+        match &self.exchange {
+            Exchange::Inside(_, bytes) => Some(bytes.as_slice()),
+            Exchange::Nothing | Exchange::Whole(_) => None,
         }
     }
 

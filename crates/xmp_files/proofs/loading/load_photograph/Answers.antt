@@ -1,5 +1,4 @@
-use Rattle.std.proofs.Common.{◌≡◌, ◌∙◌, ◌-◌, ap, subst, sym, Ok, Err, arith}
-use Rattle.std.specs.declared.result.Result.{Result}
+use Rattle.std.proofs.Common.{◌∙◌, ◌-◌, subst, sym, Err, arith}
 use Rattle.xmp_base.specs.Windows.{WindowCall}
 use Rattle.xmp_base.specs.declared.windows.WindowStop.{WindowStop}
 use Rattle.xmp_base.proofs.Exchanges.{len_after}

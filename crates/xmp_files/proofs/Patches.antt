@@ -1,0 +1,231 @@
+-- A plan that changes a file in its place alone, and what patching it leaves.
+use Rattle.std.proofs.Common.{◌≡◌, ◌⊎◌, ℕ, ◌+◌, ◌≤◌, Bool, true, false, cond, List, [], ◌∷◌, ◌++◌, length, take, drop, Some, None, Ok, Err, IsTrue, refl, inl, inr, arith, ap, sym, subst, ◌∙◌, if◌then◌else◌}
+use Rattle.std.specs.Prelude.{◌≢◌, not, nat_eq, nat_le, nat_lt, ◌&&◌, ◌||◌, codes}
+use Rattle.std.specs.List.{starts_with, prefix_len}
+use Rattle.std.specs.Option.{ok_or, option_map}
+use Rattle.std.specs.declared.option.Option.{Option}
+use Rattle.std.specs.declared.result.Result.{Result}
+use Rattle.std.proofs.lemmas.Slice.Eq.{starts_is}
+use Rattle.std.proofs.lemmas.Bool.Decides.{Decides-eqb}
+use Rattle.std.proofs.lemmas.List.{take-append-drop}
+use Rattle.std.proofs.lemmas.Bool.{and_parts, leb-true, le-ltb, eqb-true}
+use Rattle.xmp_values.specs.Characters.{is_blank}
+use Rattle.xmp_values.specs.declared.faults.Fault.{Fault}
+use Rattle.xmp_values.specs.declared.hints.Hint.{Hint}
+use Rattle.xmp_tree.specs.Parts.{Parts}
+use Rattle.xmp_packets.specs.Packets.{is_writable, packet_text}
+use Rattle.xmp_write.specs.declared.forms.Form.{Form}
+use Rattle.xmp_write.specs.WrittenPackets.{packet}
+use Rattle.xmp_base.specs.Device.{DeskState}
+use Rattle.xmp_base.specs.declared.device.Failed.{Failed}
+use Rattle.packet_exchange.specs.Closing.{is_open, Closed, ExchangeCall}
+use Rattle.xmp_files.specs.declared.kinds.Kind.{Kind}
+use Rattle.xmp_files.specs.declared.kinds.Kind.TheVariants.{Jpeg, Tiff, BigTiff, WebP, Psd, Sidecar}
+use Rattle.xmp_files.specs.declared.held.Need.TheVariants.{Packet}
+use Rattle.xmp_files.specs.Faults.{packet_limit, over_packet, file_limit, over_limit, not_known, not_built}
+use Rattle.xmp_files.specs.Kinds.{kind_of, kind_of_head, is_jpeg, is_tiff, is_big_tiff, is_webp, is_psd, is_markup, is_sidecar, without_mark, begins}
+use Rattle.xmp_files.specs.Stages.{followed, Followed}
+use Rattle.xmp_files.specs.Keeping.{Piece, Container, Text, Segments, Kept, sidecar}
+use Rattle.xmp_files.specs.Loading.{known, kind_of_file, IsKept, IsLoaded}
+use Rattle.xmp_files.specs.Opening.{Holds, IsWhole, HoldsTree}
+use Rattle.xmp_files.specs.Planning.{Edited, Plan, Same, InPlace, planned_file}
+use Rattle.xmp_files.specs.Plans.{packet_of, least_of, padding, fits, fits_payload, exchanged, digest_pieces, whole_form, told, needs_relocation, room_of, place_of, IsEdited, IsWrittenIn, OrRelocation, stays}
+use Rattle.xmp_files.specs.Loads.{PayloadLies, IsOfSize}
+use Rattle.xmp_files.specs.Patching.{IsLeft, IsPatchPlan, PatchCall, SidecarIsPatched, new_payload}
+use Rattle.xmp_files.proofs.PacketLengths.{length-packet, over_all}
+use Rattle.xmp_files.proofs.Writes.{sidecar_written}
+
+-- the packet of a plan that exchanges it
+pub record IsExchange (payload : Option Piece) (e : Edited) (plan : Plan) : Type 0 where
+  pub old : Piece
+  pub there : payload ≡ Some old
+  pub is : plan ≡ InPlace (record { at = old.at; bytes = packet_of e (length old.bytes) } ∷ [])
+  pub as_long : length (packet_of e (length old.bytes)) ≡ length old.bytes
+  pub writable : is_writable old.bytes ≡ true
+
+no_digest : (container : Container) → digest_pieces container None ≡ []
+no_digest Text = refl
+no_digest (Segments regions) = refl
+
+patch_cases : (over fit : Bool) (f g : Fault) (inside : Plan) (container : Container) (e : Edited) (plan : Plan)
+    → OrRelocation (if over then Some (Err f) else (if fit then Some (Ok inside) else (if true then Some (Err g) else None))) container e (Ok plan)
+    → (fit ≡ true) × (plan ≡ inside)
+patch_cases true fit f g inside container e plan h = absurd (let bad : Ok plan ≡ Err f = h in cc)
+patch_cases false true f g inside container e plan h = (refl, let is : Ok plan ≡ Ok inside = h in cc)
+patch_cases false false f g inside container e plan h = absurd (let bad : Ok plan ≡ Err g = h in cc)
+
+-- a packet that fits is exchanged
+exchange_of : (payload : Option Piece) (container : Container) (joined : Bool) (e : Edited) (plan : Plan) → e.digest ≡ None → fits payload joined (least_of e) ≡ true
+    → plan ≡ InPlace (exchanged payload e ++ digest_pieces container e.digest) → IsExchange payload e plan
+exchange_of None container joined e plan fixed fit is =
+    let parts = and_parts (not joined) false fit in
+    let never : false ≡ true = parts.1 in
+    absurd cc
+exchange_of (Some old) container joined e plan fixed fit is =
+    let inner = and_parts (not joined) (fits_payload (Some old) (least_of e)) fit in
+    let last = and_parts (is_writable old.bytes) (nat_le (least_of e) (length old.bytes)) inner.1 in
+    record {
+      old = old;
+      there = refl;
+      is = is ∙ ap (λ (l : List Piece). InPlace (record { at = old.at; bytes = packet_of e (length old.bytes) } ∷ l)) (ap (digest_pieces container) fixed ∙ no_digest container);
+      as_long = length-packet _ e.new (whole_form e.new) (length old.bytes) (leb-true _ _ last.1);
+      writable = last.0;
+    }
+
+edited_plan : (payload : Option Piece) (container : Container) (joined : Bool) (e : Edited) (plan : Plan) → e.digest ≡ None → IsEdited payload container joined true e (Ok plan)
+    → (plan ≡ Same) ⊎ IsExchange payload e plan
+edited_plan payload container joined e plan fixed (inl h) = inl (let is : Ok plan ≡ Ok (stays container e.digest) = h.1 in let same : stays container e.digest ≡ Same = ap (stays container) fixed in cc)
+edited_plan payload container joined e plan fixed (inr h) =
+    let c = patch_cases (nat_lt packet_limit (least_of e + padding)) (fits payload joined (least_of e)) (over_packet (told (least_of e + padding)))
+    (needs_relocation (told (least_of e)) (room_of payload)) (InPlace (exchanged payload e ++ digest_pieces container e.digest)) container e plan h.1 in
+    inr (exchange_of payload container joined e plan fixed c.0 c.1)
+
+-- without a digest and without relocation the file stays, or its packet is exchanged
+patch_plan : (container : Container) (payload : Option Piece) (joined : Bool) (e : Edited) (plan : Plan) → e.digest ≡ None → IsWrittenIn container payload joined true e (Ok plan)
+    → (plan ≡ Same) ⊎ IsExchange payload e plan
+patch_plan Text payload joined e plan fixed h = edited_plan payload Text joined e plan fixed h
+patch_plan (Segments regions) payload joined e plan fixed h = absurd (let bad : Ok plan ≡ Err not_built = h in cc)
+
+-- a payload whose packet may be written begins as one
+taken_open : (n : ℕ) (l : List ℕ) → starts_with nat_eq (take n l) (codes "<?xpacket begin=") ≡ true → IsTrue (is_open l)
+taken_open n l h =
+    let front : take n l ≡ codes "<?xpacket begin=" ++ drop 16 (take n l) = (starts_is Decides-eqb (take n l) (codes "<?xpacket begin=") true (sym h)).0 refl in
+    let whole : l ≡ (codes "<?xpacket begin=" ++ drop 16 (take n l)) ++ drop n l = sym (take-append-drop n l) ∙ ap (λ (k : List ℕ). k ++ drop n l) front in
+    subst (λ (k : List ℕ). IsTrue (is_open k)) (sym whole) refl
+
+pub writable_open : (payload : List ℕ) → is_writable payload ≡ true → IsTrue (is_open payload)
+writable_open payload h =
+    let parts = and_parts (starts_with nat_eq (packet_text payload) (codes "<?xpacket begin=")) _ h in
+    taken_open _ payload parts.0
+
+pub packet_open : (ps : List Hint) (t : Parts) (form : Form) (len : ℕ) → IsTrue (is_open (packet ps t form len))
+unfolding packet
+packet_open ps t form len = refl
+
+-- tests that fail in their second part
+no_second : (a : Bool) → (a && false) ≡ false
+no_second true = refl
+no_second false = refl
+
+neither : (a b : Bool) → ((a && false) || (b && false)) ≡ false
+neither true b = no_second b
+neither false b = no_second b
+
+no_front : (a b : Bool) → ((a && false) && b) ≡ false
+no_front true b = refl
+no_front false b = refl
+
+-- the kind by the six tests
+abbrev kind_by : (jpeg tiff big webp psd sidecar : Bool) → Option Kind
+kind_by jpeg tiff big webp psd sidecar =
+    if jpeg then Some Jpeg else if tiff then Some Tiff else if big then Some BigTiff else if webp then Some WebP else if psd then Some Psd else if sidecar then Some Sidecar else None
+
+no_kind : (a b c d e f : Bool) → a ≡ false → b ≡ false → c ≡ false → d ≡ false → e ≡ false → f ≡ false → kind_by a b c d e f ≡ None
+no_kind a b c d e f at bt ct dt et ft = rw (at, bt, ct, dt, et, ft) refl
+
+module _ (x : ℕ) (rest : List ℕ) (apart : x ≢ 60) where
+  abbrev head : List ℕ
+  head = x ∷ 63 ∷ rest
+
+  no_mark : without_mark head ≡ head
+  no_mark = ap (λ (b : Bool). if b then drop 3 head else head) (no_second (nat_eq 0xEF x))
+
+  not_angle : (b : Bool) → nat_eq 60 x ≡ b → (b && true) ≡ false
+  not_angle true e = absurd (apart (sym (eqb-true 60 x e)))
+  not_angle false e = refl
+
+  -- after any white space stands no `<`
+  markup_after : (n : ℕ) (blank : Bool) → n ≡ (if blank then 1 else 0) → begins (drop n head) (codes "<") ≡ false
+  markup_after n true e = subst (λ (k : ℕ). begins (drop k head) (codes "<") ≡ false) (sym e) refl
+  markup_after n false e = subst (λ (k : ℕ). begins (drop k head) (codes "<") ≡ false) (sym e) (not_angle (nat_eq 60 x) refl)
+
+  no_markup : is_markup head ≡ false
+  unfolding is_blank
+  no_markup = markup_after (prefix_len is_blank head) (is_blank x) refl
+
+  no_sidecar : is_sidecar head ≡ false
+  no_sidecar = ap (λ (b : Bool). b || is_markup (without_mark head)) (neither (nat_eq 0xFE x) (nat_eq 0xFF x)) ∙ ap is_markup no_mark ∙ no_markup
+
+  closed_head : kind_of_head head ≡ None
+  closed_head = no_kind (is_jpeg head) (is_tiff head) (is_big_tiff head) (is_webp head) (is_psd head) (is_sidecar head)
+      (no_second (nat_eq 0xFF x)) (neither (nat_eq 0x49 x) (nat_eq 0x4D x)) (neither (nat_eq 0x49 x) (nat_eq 0x4D x))
+      (no_front (nat_eq 0x52 x) (begins (drop 8 head) (codes "WEBP"))) (neither (nat_eq 0x38 x) (nat_eq 0x38 x)) no_sidecar
+
+-- no kind of file begins as a closed packet
+closed_kind : (file : List ℕ) → Closed file → kind_of file ≡ None
+closed_kind [] h = absurd h
+closed_kind (first ∷ []) h = absurd h
+closed_kind (first ∷ second ∷ rest) h = subst (λ (k : ℕ). kind_of (first ∷ k ∷ rest) ≡ None) (sym h.1) (closed_head first (take 14 rest) h.0)
+
+closed_refused : (now : List ℕ) → length now ≤ packet_limit → Closed now → Holds (Some now) (Err not_known)
+closed_refused now short closed =
+    let there : kind_of_file (Some now) ≡ Err not_known =
+    ap (λ (b : Bool). followed (cond b (Err (over_limit (length now))) (Ok now)) known) (le-ltb file_limit (length now) (omega (arith, short)))
+    ∙ ap (λ (k : Option Kind). ok_or k not_known) (closed_kind now closed) in
+    let is_loaded : IsLoaded Packet (Some now) (Err not_known) = subst (λ (x : Result Kind Fault). Followed x (IsKept Packet now) (Err not_known)) (sym there) refl in
+    (Err not_known, is_loaded, refl)
+
+pub sidecar_patched : SidecarIsPatched
+sidecar_patched need old joined e plan fixed planned holds short may now size left = by_plan (patch_plan Text (Some (record { at = 0; bytes = old })) joined e plan fixed planned)
+  where
+    by_exchange : plan ≡ InPlace (record { at = 0; bytes = packet_of e (length old) } ∷ []) → length (packet_of e (length old)) ≡ length old → IsWhole e.old e.new (Some now)
+    by_exchange is as_long =
+        let new : List ℕ = packet_of e (length old) in
+        let file : planned_file old plan ≡ new = ap (planned_file old) is ∙ over_all old new as_long in
+        let good = sidecar_written need old joined true e plan planned holds short may in
+        elim (subst (λ (p : Plan). IsLeft old p now) is left) [
+          | inl same ↦ inl (subst (λ (l : List ℕ). HoldsTree (Some l) e.old) (sym same) holds)
+          | inr (inl same) ↦ inr (inl (subst (λ (l : List ℕ). HoldsTree (Some l) e.new) (file ∙ sym same) good.0))
+          | inr (inr closed) ↦ inr (inr (not_known, closed_refused now (omega (arith, size, short)) closed))
+        ]
+
+    by_old : (q : Piece) → q ≡ record { at = 0; bytes = old } → plan ≡ InPlace (record { at = q.at; bytes = packet_of e (length q.bytes) } ∷ [])
+        → length (packet_of e (length q.bytes)) ≡ length q.bytes → IsWhole e.old e.new (Some now)
+    by_old q same is as_long =
+        by_exchange (subst (λ (p : Piece). plan ≡ InPlace (record { at = p.at; bytes = packet_of e (length p.bytes) } ∷ [])) same is)
+        (subst (λ (p : Piece). length (packet_of e (length p.bytes)) ≡ length p.bytes) same as_long)
+
+    by_plan : (plan ≡ Same) ⊎ IsExchange (Some (record { at = 0; bytes = old })) e plan → IsWhole e.old e.new (Some now)
+    by_plan (inl same) =
+        let is : now ≡ old = subst (λ (p : Plan). IsLeft old p now) same left in
+        inl (subst (λ (l : List ℕ). HoldsTree (Some l) e.old) (sym is) holds)
+    by_plan (inr x) = by_old x.old (let is : Some (record { at = 0; bytes = old }) ≡ Some x.old = x.there in sym cc) x.is x.as_long
+
+-- what `patch` needs to exchange a packet, and what that does
+pub record PutFacts (size : ℕ) (payload : Option Piece) (plan : Plan) (at : ℕ) (old new : List ℕ) : Type 0 where
+  pub within : at + length new ≤ size
+  pub as_long : length old ≡ length new
+  pub old_opens : IsTrue (is_open old)
+  pub new_opens : IsTrue (is_open new)
+  pub call : (s t : DeskState) (name : List ℕ) (result : Result (Unit {0}) Failed) → ExchangeCall s t name at old new result → PatchCall s t name payload plan result
+
+exchange_facts : (size : ℕ) (q : Piece) (e : Edited) (plan : Plan) → plan ≡ InPlace (record { at = q.at; bytes = packet_of e (length q.bytes) } ∷ []) → length (packet_of e (length q.bytes)) ≡ length q.bytes
+    → is_writable q.bytes ≡ true → q.at + length q.bytes ≤ size → PutFacts size (Some q) plan q.at q.bytes (packet_of e (length q.bytes))
+exchange_facts size q e plan is as_long writable lies = record {
+  within = omega (arith, as_long, lies);
+  as_long = sym as_long;
+  old_opens = writable_open q.bytes writable;
+  new_opens = packet_open _ e.new (whole_form e.new) (length q.bytes);
+  call = λ s t name result call. subst (λ (p : Plan). PatchCall s t name (Some q) p result) (sym is) call;
+}
+
+put_facts : (size : ℕ) (payload : Option Piece) (e : Edited) (plan : Plan) (at : ℕ) (old new : List ℕ) → IsExchange payload e plan → PayloadLies size payload
+    → at ≡ place_of payload → Some old ≡ option_map (λ (piece : Piece). piece.bytes) payload → Some new ≡ new_payload plan → PutFacts size payload plan at old new
+put_facts size None e plan at old new x lies at_is old_is new_is = absurd (let bad : (let none : Option Piece = None in none) ≡ Some x.old = x.there in cc)
+put_facts size (Some q) e plan at old new x lies at_is old_is new_is =
+    let same : x.old ≡ q = (let h : Some q ≡ Some x.old = x.there in sym cc) in
+    let is : plan ≡ InPlace (record { at = q.at; bytes = packet_of e (length q.bytes) } ∷ []) = subst (λ (p : Piece). plan ≡ InPlace (record { at = p.at; bytes = packet_of e (length p.bytes) } ∷ [])) same x.is in
+    let as_long : length (packet_of e (length q.bytes)) ≡ length q.bytes = subst (λ (p : Piece). length (packet_of e (length p.bytes)) ≡ length p.bytes) same x.as_long in
+    let facts = exchange_facts size q e plan is as_long (subst (λ (p : Piece). is_writable p.bytes ≡ true) same x.writable) lies.0 in
+    let new_same : new ≡ packet_of e (length q.bytes) = (let h : Some new ≡ Some (packet_of e (length q.bytes)) = new_is ∙ ap new_payload is in cc) in
+    let old_same : old ≡ q.bytes = (let h : Some old ≡ Some q.bytes = old_is in cc) in
+    subst (λ (a : ℕ). PutFacts size (Some q) plan a old new) (sym at_is)
+    (subst (λ (o : List ℕ). PutFacts size (Some q) plan q.at o new) (sym old_same) (subst (λ (n : List ℕ). PutFacts size (Some q) plan q.at q.bytes n) (sym new_same) facts))
+
+pub patch_facts : (kept : Kept) (plan : Plan) (at : ℕ) (old new : List ℕ) → IsPatchPlan kept plan → IsOfSize kept.size kept
+    → at ≡ place_of kept.payload → Some old ≡ option_map (λ (piece : Piece). piece.bytes) kept.payload → Some new ≡ new_payload plan → PutFacts kept.size kept.payload plan at old new
+patch_facts kept plan at old new (joined, e, fixed, planned) lies at_is old_is new_is = by_case (patch_plan kept.container kept.payload joined e plan fixed planned)
+  where
+    by_case : (plan ≡ Same) ⊎ IsExchange kept.payload e plan → PutFacts kept.size kept.payload plan at old new
+    by_case (inl same) = absurd (let bad : Some new ≡ None = new_is ∙ ap new_payload same in cc)
+    by_case (inr x) = put_facts kept.size kept.payload e plan at old new x lies.payload at_is old_is new_is
