@@ -1,6 +1,6 @@
 //! The values of the twelve properties.
 ghost use Rattle.std.specs.Prelude.{◌≡◌, IfOk, slice_get};
-ghost use Rattle.std.specs.Option.{option_copied};
+ghost use Rattle.std.specs.Option.{option_copied, option_flatten};
 ghost use Rattle.exif_fields.specs.Fields.{fields_of, text_at_place};
 
 use crate::dates::date_in;
@@ -27,6 +27,16 @@ impl Model for ExifFields {
 }
 
 impl ExifFields {
+    /// The texts of the value of a property, counted from 0; None exactly where it has none.
+    pub fn value(&self, property: usize) -> Option<&[Bytes]>
+        ensures { option_copied result ≡ option_flatten (slice_get self.now property) }
+    {
+        match self.values.get(property) {
+            Some(Some(texts)) => Some(texts.as_slice()),
+            _ => None,
+        }
+    }
+
     /// A text of the value of a property, both counted from 0; None exactly where there is none.
     pub fn text(&self, property: usize, i: usize) -> Option<&[u8]>
         ensures { option_copied result ≡ text_at_place (slice_get self.now property) i }

@@ -7,7 +7,7 @@ ghost use Rattle.field_values.specs.FieldTexts.{field_text, kept_text, text_unle
 
 use simdutf8::compat::from_utf8;
 use std::alloc::Global;
-use xmp_values::{Bytes, Memory, is_blank_byte, is_char};
+use xmp_values::{Bytes, Memory, is_blank_byte, is_char, is_char_text};
 
 /// The text of a field's bytes: they are UTF-8 where they are valid, else Latin-1. Characters that
 /// XML doesn't have are dropped. None where nothing but white space is left.
@@ -47,8 +47,18 @@ fn kept_text(alloc: Global, bytes: &[u8]) -> Result<Bytes, Memory>
     }
 }
 
-/// The characters of a text that XML has.
+/// The characters of a text that XML has, which mostly are all of them.
 fn kept_characters(alloc: Global, text: &str) -> Result<Bytes, Memory>
+    ensures { IfOk result (λ kept. kept ≡ encode_utf8_all (filter is_char (chars text.now))) }
+{
+    if is_char_text(text.as_bytes()) {
+        return Ok(Bytes::from_slice(alloc, text.as_bytes())?);
+    }
+    filtered_characters(alloc, text)
+}
+
+/// The characters of a text that XML has, one by one.
+fn filtered_characters(alloc: Global, text: &str) -> Result<Bytes, Memory>
     ensures { IfOk result (λ kept. kept ≡ encode_utf8_all (filter is_char (chars text.now))) }
 {
     let kept: String = text.chars().filter(|c| is_char(*c)).collect(alloc)?;

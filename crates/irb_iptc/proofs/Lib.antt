@@ -7,5 +7,6 @@ pub mod Listed
 pub mod Marked
 pub mod Pieces
 pub mod Runs
+pub mod Scanned
 pub mod Unique
 pub mod Values

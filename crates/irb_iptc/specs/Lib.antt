@@ -5,3 +5,4 @@ pub mod Datasets
 pub mod Entries
 pub mod Digest
 pub mod Fields
+pub mod Scanning

@@ -57,11 +57,11 @@ NextIs rest start Ended = EndsList rest
 NextIs rest start Short = IsCut rest
 NextIs rest start (Found block) = IsFound rest start block
 
--- a found block begins here and ends further on
+-- a found block begins here, has its data further on, and lies within the bytes
 abbrev pub Further : ℕ → ℕ → Next → Type 0
 Further start end Ended = Unit {0}
 Further start end Short = Unit {0}
-Further start end (Found block) = (block.start ≡ start) × (start < block.body + block.size + block.pad) × (block.body + block.size + block.pad ≤ end)
+Further start end (Found block) = (block.start ≡ start) × (start < block.body) × (block.body + block.size + block.pad ≤ end)
 
 -- up to a place the bytes, of which the first stands at another place, are these blocks
 pub record Underway (bytes : List ℕ) (at : ℕ) (blocks : List Block) (start : ℕ) : Type 0 where

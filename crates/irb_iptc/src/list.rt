@@ -14,8 +14,8 @@ use xmp_base::{FileSpan, Span};
 /// The blocks of a list, in their order, by places in what was read.
 #[derive(Drop)]
 pub struct Resources {
-    blocks: Vec<Block>,
-    end: u64,
+    pub(crate) blocks: Vec<Block>,
+    pub(crate) end: u64,
 }
 
 impl Model for Resources {

@@ -1,6 +1,6 @@
 //! Lists and blocks of the standards' forms.
 
-use crate::{Datasets, IptcStop, IrbStop, Resources, digest_of};
+use crate::{Datasets, IptcStop, IrbStop, Resources, digest_of, stored_digest_mut};
 use std::alloc::Global;
 use std::test::Fail;
 use xmp_base::{FileSpan, Span};
@@ -96,5 +96,60 @@ fn digest_of_abc(rt: HostRuntime) -> Result<(), Fail> {
         0x72,
     ];
     assert_eq!(rt; digest_of(b"abc"), digest);
+    Ok(())
+}
+
+/// Exchanges the digest that a list stores, if it stores one.
+fn renew(alloc: Global, list: &mut [u8], digest: &[u8; 16]) -> Result<bool, Memory> {
+    let Ok(_list) = Resources::of(alloc, list) else {
+        return Err(Memory);
+    };
+    match stored_digest_mut(list) {
+        Some(stored) => {
+            *stored = *digest;
+            Ok(true)
+        }
+        None => Ok(false),
+    }
+}
+
+#[test]
+fn the_stored_digest_is_renewed(rt: HostRuntime) -> Result<(), Fail> {
+    let digest: [u8; 16] = [
+        0x8d, 0xa2, 0x63, 0xab, 0xac, 0xda, 0x42, 0x1e, 0x4a, 0xd9, 0xcf, 0x78, 0x42, 0x1e, 0x4a,
+        0xd0,
+    ];
+    let mut list = Vec::from_slice(rt.alloc(), LIST)?;
+    assert!(rt; renew(rt.alloc(), list.as_mut_slice(), &digest)?);
+    let (front, stored) = list.as_slice().split_at(32);
+    assert_eq!(rt; front, &LIST[..32]);
+    assert_eq!(rt; stored, digest.as_slice());
+    Ok(())
+}
+
+#[test]
+fn another_size_stores_no_digest(rt: HostRuntime) -> Result<(), Fail> {
+    // The first block 1061 counts, and has 2 bytes.
+    let mut list = Vec::from_slice(rt.alloc(), b"8BIM\x04\x25\0\0\0\0\0\x02ab".as_slice())?;
+    list.extend_from_slice(&LIST[20..])?;
+    assert!(rt; !renew(rt.alloc(), list.as_mut_slice(), &[7; 16])?);
+    assert_eq!(rt; &list.as_slice()[14..], &LIST[20..]);
+    Ok(())
+}
+
+#[test]
+fn a_fault_of_the_block_in_a_list(rt: HostRuntime) -> Result<(), Fail> {
+    let list = b"8BIM\x04\x04\0\0\0\0\0\x06\x1c\x02\x19\0\x05a";
+    let resources = Resources::of(rt.alloc(), list).map_err(|_| Memory)?;
+    assert_eq!(rt; resources.span(1028), Some(Span { start: 12, end: 18 }));
+    assert_eq!(rt;
+        count_of(rt.alloc(), &list[12..])?,
+        Err((Rule::DatasetOut, 0))
+    );
+    let digest: [u8; 16] = [
+        0xce, 0xef, 0xd1, 0x70, 0x0f, 0x37, 0x28, 0x7d, 0xc3, 0xc9, 0xd9, 0x80, 0xcb, 0x5c, 0x21,
+        0x53,
+    ];
+    assert_eq!(rt; digest_of(b"\x1c\x02\x19\0\x03dog"), digest);
     Ok(())
 }

@@ -1,5 +1,5 @@
 -- Portions in a file of a device.
-use Rattle.std.proofs.Common.{◌≡◌, ℕ, ◌+◌, ◌-◌, ◌<◌, ◌≤◌, ◌&&◌, Bool, true, false, cond, List, [], ◌∷◌, ◌++◌, map, length, take, drop, get_or, refl, sym, ap, ◌∙◌, subst, arith, append_assoc, nat_le, Some, None, Ok, Err, Option}
+use Rattle.std.proofs.Common.{◌≡◌, ℕ, ◌+◌, ◌-◌, ◌<◌, ◌≤◌, ◌&&◌, Bool, true, false, cond, is_some, List, [], ◌∷◌, ◌++◌, map, length, take, drop, get_or, refl, sym, ap, ◌∙◌, subst, arith, append_assoc, nat_le, Some, None, Ok, Err, Option}
 use Rattle.std.specs.Prelude.{flat_map, slice_get, IsPermutation}
 use Rattle.std.specs.Option.{option_to_list}
 use Rattle.std.proofs.lemmas.Bool.{leb-true}
@@ -18,7 +18,7 @@ use Rattle.jpeg_extended.specs.Heads.{AreKept, bytes_in, extent_of, portion_in}
 use Rattle.jpeg_extended.specs.Tiling.{Tiles, Tiled, IsExtFault}
 use Rattle.jpeg_extended.specs.Joined.{Joined}
 use Rattle.jpeg_extended.specs.Portions.{Portion, extent, full_in, is_named, offset_in, portion_of}
-use Rattle.jpeg_extended.specs.FromDesk.{payload_at, portions_at, AreInside, InPayload, AreOf, PayloadCalls, HeadIs, HeadLies, TextCall, JoinFromCall}
+use Rattle.jpeg_extended.specs.FromDesk.{payload_at, portions_at, head_range, is_portion_at, AreInside, InPayload, AreOf, PayloadCalls, HeadIs, HeadLies, TextCall, JoinFromCall}
 use Rattle.jpeg_extended.proofs.Joins.{joined_of, fault_of}
 use Rattle.jpeg_extended.proofs.Fronts.{full_same, offset_same, named_same}
 
@@ -67,6 +67,10 @@ dead true true c d e f h = absurd (cc h)
 dead true false c d e f h = refl
 dead false b c d e f h = refl
 
+some_if : {A : Type 0} (b : Bool) (x : A) → is_some (cond b (Some x) None) ≡ b
+some_if true x = refl
+some_if false x = refl
+
 module _ (file name : List ℕ) (p : FileSpan) (order : p.start ≤ p.end) (inside : p.end ≤ length file) where
   abbrev size : ℕ
   size = p.end - p.start
@@ -109,6 +113,10 @@ module _ (file name : List ℕ) (p : FileSpan) (order : p.start ≤ p.end) (insi
       (λ i. record { full = full i; offset = offset i; bytes = behind (long_named named) i } ∷ []) ∙ sym (ap (λ (o : Option Head). map (portion_in file) (option_to_list o)) is)
   by_named false head named is = sym (ap (λ (o : Option Head). map (portion_in file) (option_to_list o)) is)
 
+  -- a payload has a head where it is a portion
+  pub head_named : (head : Option Head) → HeadIs name file p head → is_some head ≡ is_portion_at file name p
+  head_named head is = ap is_some is ∙ some_if (is_named name front size) _ ∙ sym (named_by (nat_le 75 size) refl) ∙ ap (is_named name (payload_at file p)) (sym whole)
+
   -- what a head says is what the payload says
   pub head_portion : (head : Option Head) → HeadIs name file p head → portion_of name (payload_at file p) ≡ map (portion_in file) (option_to_list head)
   head_portion head is =
@@ -134,7 +142,8 @@ desk_kept file payloads heads inside placed = All-weaker (λ (h : Head). InPaylo
     inside_at : (i : ℕ) (p : FileSpan) → slice_get payloads i ≡ Some p → (p.start ≤ p.end) × (p.end ≤ length file)
     inside_at i p e = subst (λ (q : FileSpan). (q.start ≤ q.end) × (q.end ≤ length file)) (get_or_from_slice_get payloads i p p e) (inside i p (slice_get_within payloads i p e))
 
-in_payload : (payloads : List FileSpan) (i : ℕ) (d : FileSpan) → i < length payloads → InPayload payloads (get_or payloads i d).start (get_or payloads i d).end
+-- the head of a payload lies in it
+in_payload : (payloads : List FileSpan) (i : ℕ) (d : FileSpan) → i < length payloads → InPayload payloads (get_or payloads i d).start (head_range (get_or payloads i d)).end
 in_payload payloads i d within = record { number = i; payload = get_or payloads i d; there = slice_get-get_or payloads i d within; from = omega arith; to = omega arith }
 
 -- the heads of the first payloads were read
@@ -145,7 +154,7 @@ pub record HeadsSoFar (s t : DeskState) (file name : List ℕ) (payloads : List 
 
 pub heads_step : (s t u : DeskState) (file name : List ℕ) (len : ℕ) (payloads : List FileSpan) (i : ℕ) (d : FileSpan) (heads new : List Head) (head : Option Head)
     → i < length payloads → AreInside len payloads → Told s.files (λ files. length (bytes_of files file) ≡ len) → HeadsSoFar s t file name payloads i heads
-    → ReadInside t u file (get_or payloads i d).start (get_or payloads i d).end → HeadLies (get_or payloads i d) head
+    → ReadInside t u file (get_or payloads i d).start (head_range (get_or payloads i d)).end → HeadLies (get_or payloads i d) head
     → Told t.files (λ files. HeadIs name (bytes_of files file) (get_or payloads i d) head) → new ≡ heads ++ option_to_list head → HeadsSoFar s u file name payloads (i + 1) new
 heads_step s t u file name len payloads i d heads new head within inside whole_is a read lies is pushed = record {
   calls = desk_calls_more s t u file payloads _ _ a.calls read (in_payload payloads i d within);
@@ -158,7 +167,7 @@ heads_step s t u file name len payloads i d heads new head within inside whole_i
 }
 
 pub heads_failed : (s t u : DeskState) (file name : List ℕ) (payloads : List FileSpan) (i : ℕ) (d : FileSpan) (heads : List Head) → i < length payloads → HeadsSoFar s t file name payloads i heads
-    → ReadInside t u file (get_or payloads i d).start (get_or payloads i d).end → PayloadCalls s u file payloads
+    → ReadInside t u file (get_or payloads i d).start (head_range (get_or payloads i d)).end → PayloadCalls s u file payloads
 heads_failed s t u file name payloads i d heads within a read = desk_calls_more s t u file payloads _ _ a.calls read (in_payload payloads i d within)
 
 -- the bytes of the first heads were read

@@ -9,3 +9,4 @@ pub mod OneText
 pub mod NewPortions
 pub mod Fronts
 pub mod DeskPortions
+pub mod NamedPortions

@@ -1,6 +1,7 @@
 -- What joining portions of a file of a device does and answers.
-use Rattle.std.specs.Prelude.{◌≡◌, ℕ, ◌+◌, ◌-◌, ◌≤◌, List, ◌++◌, take, drop, flat_map, slice_get, All, IfOk, IfSome, Option, Some, Ok, Err}
+use Rattle.std.specs.Prelude.{◌≡◌, ℕ, ◌+◌, ◌-◌, ◌≤◌, min, Bool, List, ◌++◌, length, take, drop, map, filter, flat_map, slice_get, All, IfOk, IfSome, Vec, Option, Some, Ok, Err}
 use Rattle.std.specs.declared.result.Result.{Result}
+use Rattle.std.specs.declared.alloc.Global.{Global}
 use Rattle.xmp_base.specs.Device.{DeskState, Moved, Told, Rose, SameFiles, NotFewer, bytes_of}
 use Rattle.xmp_base.specs.declared.file_span.FileSpan.{FileSpan}
 use Rattle.jpeg_extended.specs.declared.from_desk.JoinStop.{JoinStop}
@@ -9,7 +10,7 @@ use Rattle.jpeg_extended.specs.declared.tiling.ExtStop.TheVariants as stops
 use Rattle.jpeg_extended.specs.declared.tiling.Head.{Head}
 use Rattle.jpeg_extended.specs.Heads.{bytes_in}
 use Rattle.jpeg_extended.specs.Joined.{JoinAnswer}
-use Rattle.jpeg_extended.specs.Portions.{Portion, head_of, portion_of}
+use Rattle.jpeg_extended.specs.Portions.{Portion, head_of, is_named, portion_of}
 
 -- the bytes of a range of a file
 abbrev pub payload_at : List ℕ → FileSpan → List ℕ
@@ -18,6 +19,18 @@ payload_at file range = take (range.end - range.start) (drop range.start file)
 -- the portions of a name among payloads of a file, in their order
 abbrev pub portions_at : List ℕ → List ℕ → List FileSpan → List Portion
 portions_at file name payloads = flat_map (λ p. portion_of name (payload_at file p)) payloads
+
+-- whether the payload at a range of a file is a portion of the text of a name
+abbrev pub is_portion_at : List ℕ → List ℕ → FileSpan → Bool
+is_portion_at file name payload = is_named name (payload_at file payload) (length (payload_at file payload))
+
+-- those that are, in their order
+abbrev pub named_at : List ℕ → List ℕ → List FileSpan → List FileSpan
+named_at file name payloads = filter (is_portion_at file name) payloads
+
+-- where the head of a payload stands that tells whether it is a portion
+abbrev pub head_range : FileSpan → FileSpan
+head_range payload = record { start = payload.start; end = min payload.end (payload.start + 75) }
 
 -- ranges of a file of this length
 abbrev pub AreInside : ℕ → List FileSpan → Type 0
@@ -56,6 +69,13 @@ abbrev pub StopsOnly : {A : Type 0} → DeskState → DeskState → Result A Joi
 StopsOnly s t (Ok x) = Unit {0}
 StopsOnly s t (Err (Portions stop)) = stop ≡ stops.Memory
 StopsOnly s t (Err Device) = Rose s.faults t.faults
+
+-- The portions of a name were found among payloads, of which the heads alone were read.
+pub record NamedCall (s t : DeskState) (file : List ℕ) (len : ℕ) (payloads : List FileSpan) (name : List ℕ) (result : Result (Vec FileSpan Global) JoinStop) : Type 0 where
+  pub calls : PayloadCalls s t file (map head_range payloads)
+  pub inside : IfOk result (λ named. AreInside len named.items)
+  pub told : IfOk result (λ named. Told s.files (λ files. named.items ≡ named_at (bytes_of files file) name payloads))
+  pub stops : StopsOnly s t result
 
 -- The text of heads was read.
 pub record TextCall (s t : DeskState) (file : List ℕ) (payloads : List FileSpan) (heads : List Head) (result : Result (List ℕ) JoinStop) : Type 0 where

@@ -2,12 +2,12 @@
 //!
 //! The first 75 bytes of each payload are read, and the others only of the portions of one text that
 //! tile it. So a file costs no more memory than the text that it could mean.
-ghost use Rattle.std.specs.Prelude.{◌≡◌, ◌++◌, ◌+◌, ◌<◌, ◌≤◌, ◌^◌, IfOk, OnOk, MatchResult, IsTrue, length, map};
+ghost use Rattle.std.specs.Prelude.{◌≡◌, [], ◌∷◌, ◌++◌, is_some, if◌then◌else◌, ◌+◌, ◌<◌, ◌≤◌, ◌^◌, IfOk, OnOk, MatchResult, IsTrue, length, map};
 ghost use Rattle.std.specs.Option.{option_to_list};
 ghost use Rattle.xmp_base.specs.Device.{Told, Rose, bytes_of, is_known, len_of};
 ghost use Rattle.xmp_base.specs.Windows.{ReadInside};
 ghost use Rattle.jpeg_extended.specs.Heads.{portion_in};
-ghost use Rattle.jpeg_extended.specs.FromDesk.{AreInside, AreOf, PayloadCalls, StopsOnly, HeadIs, HeadLies, JoinFromCall, TextCall, portions_at};
+ghost use Rattle.jpeg_extended.specs.FromDesk.{AreInside, AreOf, PayloadCalls, StopsOnly, HeadIs, HeadLies, JoinFromCall, NamedCall, TextCall, head_range, portions_at};
 
 use crate::tiling::{ExtStop, Head, tile};
 use std::alloc::Global;
@@ -57,6 +57,49 @@ pub fn joined_from<D: Desk>(
         },
         Err(stop) => Err(JoinStop::Portions(stop)),
     }
+}
+
+/// Those of the payloads of a file of `len` bytes that are portions of the text of a name, in their order. Of each
+/// payload the first 75 bytes are read at most.
+///
+/// # Errors
+/// `Portions` with `Memory`, and `Device` after a failure that the desk counted.
+pub fn named_from<D: Desk>(
+    alloc: Global,
+    desk: &mut D,
+    file: &str,
+    len: u64,
+    payloads: &[FileSpan],
+    name: &Digits,
+) -> Result<Vec<FileSpan>, JoinStop>
+    requires known { IsTrue (is_known (D.state desk.old) file.now) }
+    requires size { len_of (D.state desk.old) file.now ≡ len }
+    requires told { Told (D.state desk.old).files (λ files. length (bytes_of files file.now) ≡ len) }
+    requires inside { AreInside len payloads.now }
+    ensures call { NamedCall (D.state desk.old) (D.state desk.new) file.now len payloads.now name.now result }
+{
+    let mut named = Vec::new(alloc);
+    for payload in payloads {
+        let head = match head_from(desk, file, *payload, name) {
+            Ok(head) => head,
+            Err(Failed) => return Err(JoinStop::Device),
+        };
+        match put_named(&mut named, *payload, head) {
+            Ok(()) => (),
+            Err(Memory) => return Err(JoinStop::Portions(ExtStop::Memory)),
+        }
+    }
+    Ok(named)
+}
+
+/// A payload, where it has a head.
+fn put_named(named: &mut Vec<FileSpan>, payload: FileSpan, head: Option<Head>) -> Result<(), Memory>
+    ensures { OnOk result (named.new.items ≡ named.old.items ++ (if is_some head then payload ∷ [] else [])) }
+{
+    if let Some(_) = head {
+        named.push(payload)?;
+    }
+    Ok(())
 }
 
 /// The heads of the portions of a name, in the order of their payloads.
@@ -111,7 +154,7 @@ fn head_from<D: Desk>(
     requires known { IsTrue (is_known (D.state desk.old) file.now) }
     requires order { payload.start ≤ payload.end }
     requires inside { payload.end ≤ len_of (D.state desk.old) file.now }
-    ensures calls { ReadInside (D.state desk.old) (D.state desk.new) file.now payload.start payload.end }
+    ensures calls { ReadInside (D.state desk.old) (D.state desk.new) file.now payload.start (head_range payload).end }
     ensures lies { IfOk result (HeadLies payload) }
     ensures head { IfOk result (λ head. Told (D.state desk.old).files (λ files. HeadIs name.now (bytes_of files file.now) payload head)) }
     ensures failed { MatchResult result (λ _. Unit {0}) (λ _. Rose (D.state desk.old).faults (D.state desk.new).faults) }

@@ -14,7 +14,7 @@ mod tests;
 mod tiling;
 mod writing;
 
-pub use from_desk::{JoinStop, joined_from};
+pub use from_desk::{JoinStop, joined_from, named_from};
 pub use joiner::Joiner;
 pub use laws::{heads_tell, joins_again, one_answer};
 pub use naming::name_of;

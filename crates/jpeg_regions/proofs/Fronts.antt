@@ -10,7 +10,7 @@ use Rattle.jpeg_regions.specs.declared.kind.RegionKind.{RegionKind}
 use Rattle.jpeg_regions.specs.declared.kind.RegionKind.TheVariants.{Main, Portion, Exif, Resources, Mpf, App0, Other}
 use Rattle.jpeg_regions.specs.Kinds.{kind_of, first_kind_of, front_len, is_portion, is_exif, packet_signature, portion_signature, exif_signature, mpf_signature, resources_signature}
 
-begins-take : (n : ℕ) (xs needle : List ℕ) → length needle ≤ n → starts_with nat_eq (take n xs) needle ≡ starts_with nat_eq xs needle
+pub begins-take : (n : ℕ) (xs needle : List ℕ) → length needle ≤ n → starts_with nat_eq (take n xs) needle ≡ starts_with nat_eq xs needle
 begins-take n xs needle h = ap (λ (l : List ℕ). pointwise nat_eq needle l) (take-take (length needle) n xs h)
 
 long-take : (k n : ℕ) (xs : List ℕ) → k ≤ n → nat_le k (length (take n xs)) ≡ nat_le k (length xs)

@@ -2,8 +2,8 @@ pub mod Exchanges
 pub mod Faults
 pub mod Found
 pub mod Fronts
+pub mod InPlace
 pub mod Kept
-pub mod Lent
 pub mod Near
 pub mod Pieces
 pub mod Places

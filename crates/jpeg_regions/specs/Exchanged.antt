@@ -1,6 +1,7 @@
 -- A file with a run of regions exchanged for other segments, none of which is the tail.
-use Rattle.std.specs.Prelude.{ℕ, ◌+◌, ◌-◌, List, [], ◌∷◌, ◌++◌, length, take, drop, map, flat_map}
-use Rattle.jpeg_regions.specs.Jpeg.{Segment, Region, text, span, placed}
+use Rattle.std.specs.Prelude.{◌≡◌, true, ℕ, ◌+◌, ◌-◌, slice_get, Some, List, [], ◌∷◌, ◌++◌, length, take, drop, map, flat_map}
+use Rattle.xmp_base.specs.Device.{put_at}
+use Rattle.jpeg_regions.specs.Jpeg.{Segment, Region, Jpeg, text, span, placed, is_main}
 
 -- the place where a list begins
 abbrev pub start_of : List Region → ℕ
@@ -23,3 +24,9 @@ exchanged_file file start end segments = take start file ++ (flat_map text segme
 abbrev pub exchanged_list : List Region → ℕ → ℕ → List Segment → List Region → List Region
 exchanged_list before start end segments after =
     before ++ (placed start segments ++ map (moved end (start + length (flat_map text segments))) after)
+
+-- a file with a packet, behind its signature of 29 bytes, exchanged for one of its length
+abbrev pub PacketExchanged : Type 0
+PacketExchanged =
+    (file : List ℕ) (regions : List Region) (i : ℕ) (r : Region) (packet : List ℕ) → Jpeg file regions → slice_get regions i ≡ Some r → is_main r.kind ≡ true
+    → r.payload.start + 29 + length packet ≡ r.payload.end → Jpeg (put_at file (r.payload.start + 29) packet) regions

@@ -1,5 +1,5 @@
 -- JPEG files as lists of segments, the regions where these stand, and the first fault (ISO 10918-1, annex B.1).
-use Rattle.std.specs.Prelude.{◌≡◌, ◌≢◌, ℕ, ◌+◌, ◌*◌, ◌<◌, ◌≤◌, ◌⊎◌, Bool, true, false, List, [], ◌∷◌, ◌++◌, length, replicate, filter, slice_get, flat_map, drop, Some}
+use Rattle.std.specs.Prelude.{◌≡◌, ◌≢◌, ℕ, ◌+◌, ◌*◌, ◌<◌, ◌≤◌, ◌⊎◌, Bool, true, false, List, [], ◌∷◌, ◌++◌, length, replicate, map, filter, slice_get, flat_map, drop, Some}
 use Rattle.std.specs.List.{AllByRecursion}
 use Rattle.std.specs.Option.{option_map}
 use Rattle.xmp_values.specs.declared.rules.Rule.{Rule}
@@ -106,6 +106,21 @@ is_main Tail = false
 -- the main packets
 abbrev pub mains : List Region → List Region
 mains regions = filter (λ r. is_main r.kind) regions
+
+abbrev pub is_extension : RegionKind → Bool
+is_extension Main = false
+is_extension Portion = true
+is_extension Exif = false
+is_extension Resources = false
+is_extension Mpf = false
+is_extension App0 = false
+is_extension Other = false
+is_extension Alone = false
+is_extension Tail = false
+
+-- where the payloads of the portions of extended texts stand
+abbrev pub portion_payloads : List Region → List FileSpan
+portion_payloads regions = map (λ r. r.payload) (filter (λ r. is_extension r.kind) regions)
 
 -- the list of a file: at most one region is Main
 pub record Jpeg (file : List ℕ) (regions : List Region) : Type 0 where

@@ -3,7 +3,6 @@ pub mod Exchanged
 pub mod FromDesk
 pub mod Jpeg
 pub mod Kinds
-pub mod Lending
 pub mod Markers
 pub mod Reads
 pub mod Wanted

@@ -2,7 +2,7 @@
 ghost use Rattle.std.specs.Prelude.{◌≡◌, ℕ, List, ◌∷◌, ◌++◌};
 ghost use Rattle.std.specs.List.{AllByRecursion};
 ghost use Rattle.jpeg_regions.specs.Jpeg.{Jpeg, FirstFault, Region, Segment, IsInner, Cuts};
-ghost use Rattle.jpeg_regions.specs.Exchanged.{start_of, exchanged_file, exchanged_list};
+ghost use Rattle.jpeg_regions.specs.Exchanged.{start_of, exchanged_file, exchanged_list, PacketExchanged};
 
 use xmp_values::Rule;
 
@@ -20,4 +20,9 @@ pub fn exchange()
         → Cuts file (before ++ (gone ++ next ∷ after)) → AllByRecursion IsInner segments
         → Cuts (exchanged_file file (start_of (gone ++ next ∷ after)) next.range.start segments)
         (exchanged_list before (start_of (gone ++ next ∷ after)) next.range.start segments (next ∷ after)) }
+{}
+
+/// A packet that is exchanged for one of its length leaves the list of regions as it is.
+pub fn packet_exchanged()
+    ensures { PacketExchanged }
 {}

@@ -1,14 +1,15 @@
 //! The list of regions, and what stops a cut.
-ghost use Rattle.std.specs.Prelude.{◌≡◌, ℕ, ◌≤◌, ◌<◌, ◌⊎◌, map, length, slice_get, Some, MatchResult};
+ghost use Rattle.std.specs.Prelude.{◌≡◌, ℕ, ◌≤◌, ◌<◌, ◌⊎◌, map, length, slice_get, Some, IfOk, MatchResult};
 ghost use Rattle.std.specs.Option.{option_map};
-ghost use Rattle.jpeg_regions.specs.Jpeg.{mains};
+ghost use Rattle.jpeg_regions.specs.Jpeg.{mains, portion_payloads};
 ghost use Rattle.jpeg_regions.specs.Reads.{region_of};
 
 use crate::kind::RegionKind;
 use crate::reading::Found;
+use std::alloc::Global;
 use std::marker::Model;
 use xmp_base::FileSpan;
-use xmp_values::Rule;
+use xmp_values::{Memory, Rule};
 
 /// The regions of a file, in their order. The last is the tail.
 #[derive(Drop)]
@@ -52,6 +53,16 @@ impl Regions {
         ensures { result ≡ option_map (λ r. r.payload) (slice_get (mains self.now) 0) }
     {
         main_payload(self.found.as_slice())
+    }
+
+    /// The ranges of the payloads of portions of extended texts, by places in the file, in its order.
+    ///
+    /// # Errors
+    /// `Memory`.
+    pub fn portions(&self, alloc: Global) -> Result<Vec<FileSpan>, Memory>
+        ensures { IfOk result (λ payloads. payloads.items ≡ portion_payloads self.now) }
+    {
+        portions_of(alloc, self.found.as_slice())
     }
 
     /// What region `i` is to metadata, by its marker and the beginning of its payload.
@@ -116,4 +127,20 @@ fn main_payload(found: &[Found]) -> Option<FileSpan>
         }
     }
     None
+}
+
+/// The ranges of the portions' payloads.
+fn portions_of(alloc: Global, found: &[Found]) -> Result<Vec<FileSpan>, Memory>
+    ensures { IfOk result (λ payloads. payloads.items ≡ portion_payloads (map region_of found.now)) }
+{
+    let mut payloads = Vec::new(alloc);
+    for region in found {
+        if let RegionKind::Portion = region.kind {
+            payloads.push(FileSpan {
+                start: region.payload,
+                end: region.payload_end(),
+            })?;
+        }
+    }
+    Ok(payloads)
 }

@@ -5,7 +5,7 @@ use Rattle.std.specs.List.{list_any}
 use Rattle.std.proofs.lemmas.List.Elements.{Decides-contains}
 use Rattle.std.proofs.lemmas.Bool.Decides.{same_from_decides, Decides-like, Decides-by_or}
 use Rattle.xmp_values.specs.declared.text.Name.{Name}
-use Rattle.xmp_tree.proofs.PlaceLemmas.{same_name_is}
+use Rattle.xmp_values.proofs.SameNames.{same_name_is}
 use Rattle.rdf_forms.specs.Words.{same_name}
 use Rattle.rdf_forms.specs.MemberRules.{has_again, has_common}
 use Rattle.rdf_forms.specs.Entering.{Holds, clashes}
@@ -41,11 +41,11 @@ stands-push m n [] = ap (λ (b : Bool). b || false) (same_name-comm m n) ∙ no_
     no_more : (b : Bool) → (b || false) ≡ b
     no_more true = refl
     no_more false = refl
-stands-push m n (k ∷ ks) = ap (λ (b : Bool). same_name m k || b) (stands-push m n ks) ∙ behind (same_name m k)
+stands-push m n (k ∷ ks) = ap (λ (b : Bool). same_name m k || b) (stands-push m n ks) ∙ after (same_name m k)
   where
-    behind : (b : Bool) → (b || (stands m ks || same_name n m)) ≡ ((b || stands m ks) || same_name n m)
-    behind true = refl
-    behind false = refl
+    after : (b : Bool) → (b || (stands m ks || same_name n m)) ≡ ((b || stands m ks) || same_name n m)
+    after true = refl
+    after false = refl
 
 between : (a s b c : Bool) → ((a || s) || (b || c)) ≡ ((a || b) || (s || c))
 between true s b c = refl

@@ -17,8 +17,8 @@ use Rattle.rdf_forms.specs.Entering.{element_names, own_names, Holds, clashes, e
 use Rattle.rdf_forms.proofs.Clashes.{clashes-held, clashes-append}
 use Rattle.rdf_forms.proofs.Entered.{holds_itself}
 
-pub holds_behind : (set names more : List Name) → Holds set names → Holds (set ++ more) (names ++ more)
-holds_behind set names more held n = (
+pub holds_after : (set names more : List Name) → Holds set names → Holds (set ++ more) (names ++ more)
+holds_after set names more held n = (
   λ h. ⊎_elim (λ l. Contains-append_left names more n ((held n).0 l)) (Contains-append_right names more n) (Contains-append_cases set more n h),
   λ h. ⊎_elim (λ l. Contains-append_left set more n ((held n).1 l)) (Contains-append_right set more n) (Contains-append_cases names more n h),
 )
@@ -34,7 +34,7 @@ module _ (those ns set more : List Name) (so_far : IsEntered those ns set) where
   pub more_entered : (new : List Name) → clashes more set ≡ false → Holds new (set ++ more) → IsEntered those (ns ++ more) new
   more_entered new apart holds = record {
     apart = clashes-append ns more those ∙ or_from (clashes ns those) (clashes more (those ++ ns)) so_far.apart (sym same ∙ apart);
-    holds = subst (Holds new) (append_assoc those ns more) (holds_through new (set ++ more) ((those ++ ns) ++ more) holds (holds_behind set (those ++ ns) more so_far.holds));
+    holds = subst (Holds new) (append_assoc those ns more) (holds_through new (set ++ more) ((those ++ ns) ++ more) holds (holds_after set (those ++ ns) more so_far.holds));
   }
 
   pub more_clash : clashes more set ≡ true → clashes (ns ++ more) those ≡ true

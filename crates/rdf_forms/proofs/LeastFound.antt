@@ -9,7 +9,8 @@ use Rattle.rdf_forms.specs.Visits.{Visit}
 use Rattle.rdf_forms.specs.NameRules.{name_rule, first_about}
 use Rattle.rdf_forms.specs.FormRules.{form_rule}
 use Rattle.rdf_forms.specs.MemberRules.{member_rule, member_names}
-use Rattle.rdf_forms.specs.Rules.{or_else, broken_in, broken}
+use Rattle.std.specs.Option.{option_or}
+use Rattle.rdf_forms.specs.Rules.{broken_in, broken}
 use Rattle.rdf_forms.specs.LeastRules.{breaks, IsLeast, LeastRule}
 
 -- ---- RDF's rules
@@ -47,11 +48,11 @@ among v rule h = absurd cc
 
 -- ---- the first that holds
 
-either : (b : Bool) (r : Rule) (o p : Option Rule) → or_else (cond b (Some r) o) p ≡ cond b (Some r) (or_else o p)
+either : (b : Bool) (r : Rule) (o p : Option Rule) → option_or (cond b (Some r) o) p ≡ cond b (Some r) (option_or o p)
 either true r o p = refl
 either false r o p = refl
 
-first_of_both : (test : Rule → Bool) (rs qs : List Rule) → or_else (find test rs) (find test qs) ≡ find test (rs ++ qs)
+first_of_both : (test : Rule → Bool) (rs qs : List Rule) → option_or (find test rs) (find test qs) ≡ find test (rs ++ qs)
 first_of_both test [] qs = refl
 first_of_both test (r ∷ rs) qs =
     either (test r) r (find test rs) (find test qs) ∙ ap (cond (test r) (Some r)) (first_of_both test rs qs)
@@ -71,8 +72,8 @@ first_member v = refl
 broken_first : (v : Visit) → broken v ≡ find (breaks v) rules
 unfolding broken broken_in
 broken_first v =
-    (λ i. or_else (first_name v i) (or_else (first_form v i) (first_member v i)))
-    ∙ ap (or_else (find (breaks v) names)) (first_of_both (breaks v) forms members) ∙ first_of_both (breaks v) names (forms ++ members)
+    (λ i. option_or (first_name v i) (option_or (first_form v i) (first_member v i)))
+    ∙ ap (option_or (find (breaks v) names)) (first_of_both (breaks v) forms members) ∙ first_of_both (breaks v) names (forms ++ members)
 
 -- ---- the least number
 

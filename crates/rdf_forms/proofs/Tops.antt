@@ -9,18 +9,19 @@ use Rattle.rdf_forms.specs.NameRules.{name_rule}
 use Rattle.rdf_forms.specs.FormRules.{form_rule}
 use Rattle.rdf_forms.specs.MemberRules.{member_rule, member_names, twice_value, twice, tree_deep}
 use Rattle.rdf_forms.specs.Entering.{Holds, clashes, IsEntered}
-use Rattle.rdf_forms.specs.Rules.{or_else, broken_in}
+use Rattle.std.specs.Option.{option_or}
+use Rattle.rdf_forms.specs.Rules.{broken_in}
 use Rattle.rdf_forms.specs.Broken.{IsTop}
 use Rattle.rdf_forms.proofs.Clashes.{clashes-held}
-use Rattle.rdf_forms.proofs.EnteredLists.{holds_behind, holds_through}
+use Rattle.rdf_forms.proofs.EnteredLists.{holds_after, holds_through}
 
 module _ (t : Element) (first : List ℕ) (names : List Name) where
   module _ (no_name : None ≡ name_rule roles.Top t first) (no_form : None ≡ form_rule roles.Top t) where
     by_members : broken_in roles.Top 0 t first names ≡ member_rule roles.Top 0 t names
     unfolding broken_in
     by_members =
-        ap (λ o. or_else o (or_else (form_rule roles.Top t) (member_rule roles.Top 0 t names))) (sym no_name)
-        ∙ ap (λ o. or_else o (member_rule roles.Top 0 t names)) (sym no_form)
+        ap (λ o. option_or o (option_or (form_rule roles.Top t) (member_rule roles.Top 0 t names))) (sym no_name)
+        ∙ ap (λ o. option_or o (member_rule roles.Top 0 t names)) (sym no_form)
 
     pub by_value : twice_value roles.Top t ≡ true → broken_in roles.Top 0 t first names ≡ Some TwiceValue
     unfolding member_rule tree_deep
@@ -40,5 +41,5 @@ module _ (t : Element) (first : List ℕ) (names : List Name) where
       pub unbroken : (more : List Name) → IsEntered set (member_names t) more → IsTop t first names more
       unbroken more entering = record {
         unbroken = by_twice ∙ ap (λ (b : Bool). if b then Some Twice else None) entering.apart;
-        holds = holds_through more (set ++ member_names t) (names ++ member_names t) entering.holds (holds_behind set names (member_names t) held);
+        holds = holds_through more (set ++ member_names t) (names ++ member_names t) entering.holds (holds_after set names (member_names t) held);
       }

@@ -3,7 +3,7 @@ use Rattle.std.specs.Prelude.{ℕ, Bool, not, ◌&&◌, ◌||◌, List, [], code
 use Rattle.std.specs.Str.{bytes_eq}
 use Rattle.xmp_values.specs.declared.text.Name.{Name}
 unfoldable pub use Rattle.xmp_values.specs.Spaces.{xml_space, rdf_space, meta_space}
-unfoldable pub use Rattle.xmp_tree.specs.Places.{same_name}
+unfoldable pub use Rattle.xmp_values.specs.Names.{same_name}
 
 -- the name of RDF's namespace with this local part
 abbrev pub rdf : List ℕ → Name

@@ -16,8 +16,6 @@ mod name_rules;
 mod parts;
 mod roles;
 mod rules;
-#[cfg(test)]
-mod tests;
 mod visits;
 mod words;
 

@@ -21,7 +21,7 @@ between low high inner_low inner_high c covers within = grind (arith, nat_tests)
 within_one : (ranges : List (ℕ × ℕ)) (low high c : ℕ) → is_covered ranges (low, high) ≡ true → (nat_le low c && nat_le c high) ≡ true → is_within ranges c ≡ true
 within_one [] low high c covers within = absurd cc
 within_one (range ∷ ranges) low high c covers within =
-    ⊎_elim (λ here. or_left _ _ (between range.0 range.1 low high c here within)) (λ behind. or_right _ _ (within_one ranges low high c behind within))
+    ⊎_elim (λ here. or_left _ _ (between range.0 range.1 low high c here within)) (λ after. or_right _ _ (within_one ranges low high c after within))
     (or_cases _ _ covers)
 
 within_all : (inner ranges : List (ℕ × ℕ)) (c : ℕ) → list_all (is_covered ranges) inner ≡ true → is_within inner c ≡ true → is_within ranges c ≡ true

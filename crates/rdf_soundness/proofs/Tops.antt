@@ -132,18 +132,18 @@ module _ (levels : ℕ) (enough : 60 ≤ levels) where
   abbrev members_in : List Element → List Member
   members_in ts = flat_map (top_members levels) ts
 
-  members_behind : (earlier : List Element) (t : Element) → members_in earlier ++ top_members levels t ≡ members_in (earlier ++ t ∷ [])
-  members_behind earlier t = flat_map_more (top_members levels) [] earlier t
+  members_after : (earlier : List Element) (t : Element) → members_in earlier ++ top_members levels t ≡ members_in (earlier ++ t ∷ [])
+  members_after earlier t = flat_map_more (top_members levels) [] earlier t
 
   -- one top more
-  behind : (earlier : List Element) (t : Element) → IsSound t → AreWellFormed 24 (members_in earlier) → twice roles.Top t (flat_map member_names earlier) ≡ false
+  after : (earlier : List Element) (t : Element) → IsSound t → AreWellFormed 24 (members_in earlier) → twice roles.Top t (flat_map member_names earlier) ≡ false
       → IsFaultless (member_visits (property_visits levels) holders.Top 0 (elements_of t)) → AreWellFormed 24 (members_in (earlier ++ t ∷ []))
   unfolding twice
-  behind earlier t sound old once inside =
+  after earlier t sound old once inside =
       let parts = or_parts (has_common (member_names t) (flat_map member_names earlier)) (has_again (member_names t)) once in
       let apart : has_common (map tree.name_of (top_members levels t)) (map tree.name_of (members_in earlier)) ≡ false =
       ap (λ ns. has_common ns (map tree.name_of (members_in earlier))) (names-top levels t) ∙ ap (has_common (member_names t)) (names-row levels earlier) ∙ parts.0 in
-      subst (AreWellFormed 24) (members_behind earlier t)
+      subst (AreWellFormed 24) (members_after earlier t)
       (formed_append 24 (members_in earlier) (top_members levels t) old (top_formed t sound parts.1 inside)
       (parted (members_in earlier) (top_members levels t) apart))
 
@@ -155,9 +155,9 @@ module _ (levels : ℕ) (enough : 60 ≤ levels) where
       let rest : List Visit = top_visits levels (earlier ++ t ∷ []) ts in
       let front = faultless_cons (record { role = roles.Top; depth = 0; element = t; earlier = earlier }) (inside ++ rest) h in
       let back = faultless_append inside rest front.1 in
-      let more = behind earlier t (All-head IsSound t ts sound) old front.0.once back.0 in
+      let more = after earlier t (All-head IsSound t ts sound) old front.0.once back.0 in
       subst (AreWellFormed 24)
-      (ap (λ ms. ms ++ members_in ts) (sym (members_behind earlier t)) ∙ append_assoc (members_in earlier) (top_members levels t) (members_in ts))
+      (ap (λ ms. ms ++ members_in ts) (sym (members_after earlier t)) ∙ append_assoc (members_in earlier) (top_members levels t) (members_in ts))
       (row_formed (earlier ++ t ∷ []) ts (All-tail IsSound t ts sound) more back.1)
 
   pub tops_formed : (ts : List Element) → All IsSound ts → IsFaultless (top_visits levels [] ts) → AreWellFormed 24 (flat_map (top_members levels) ts)

@@ -13,7 +13,8 @@ use Rattle.rdf_forms.specs.Visits.{Visit}
 use Rattle.rdf_forms.specs.NameRules.{no_rdf, not_description, about_differs, no_namespace, xml_name, rdf_name, name_rule, first_about}
 use Rattle.rdf_forms.specs.FormRules.{refused_attribute, bad_parse_type, mixed, many_nodes, bad_container, bad_item, form_rule}
 use Rattle.rdf_forms.specs.MemberRules.{twice_value, twice, tree_deep, member_rule, member_names}
-use Rattle.rdf_forms.specs.Rules.{or_else, broken_in, broken, placed, fault_at, first_fault}
+use Rattle.std.specs.Option.{option_or}
+use Rattle.rdf_forms.specs.Rules.{broken_in, broken, placed, fault_at, first_fault}
 
 -- ---- an element
 
@@ -39,7 +40,7 @@ passed : (b : Bool) (r : Rule) (o : Option Rule) → (if b then Some r else o) �
 passed true r o e = absurd cc
 passed false r o e = (refl, e)
 
-neither : {X : Type 0} (o p : Option X) → or_else o p ≡ None → (o ≡ None) × (p ≡ None)
+neither : {X : Type 0} (o p : Option X) → option_or o p ≡ None → (o ≡ None) × (p ≡ None)
 neither None p e = (refl, e)
 neither (Some x) p e = absurd cc
 
@@ -102,7 +103,7 @@ pub unbroken_in : (role : Role) (depth : ℕ) (e : Element) (first : List ℕ) (
     → IsUnbroken role depth e first names
 unfolding broken_in
 unbroken_in role depth e first names h =
-    let front = neither (name_rule role e first) (or_else (form_rule role e) (member_rule role depth e names)) h in
+    let front = neither (name_rule role e first) (option_or (form_rule role e) (member_rule role depth e names)) h in
     let back = neither (form_rule role e) (member_rule role depth e names) front.1 in
     let n = name_facts role e first front.0 in
     let f = form_facts role e back.0 in
@@ -152,7 +153,7 @@ faultless_append [] ws h = (refl, h)
 faultless_append (v ∷ vs) ws h =
     let parts = neither (fault_at v) (first_fault (vs ++ ws)) h in
     let rest = faultless_append vs ws parts.1 in
-    (ap (λ o. or_else o (first_fault vs)) parts.0 ∙ rest.0, rest.1)
+    (ap (λ o. option_or o (first_fault vs)) parts.0 ∙ rest.0, rest.1)
 
 pub faultless_each : {X : Type 0} (inside : X → List Visit) (xs : List X) → IsFaultless (flat_map inside xs) → All (λ x. IsFaultless (inside x)) xs
 faultless_each inside [] h = All-nil (λ x. IsFaultless (inside x))

@@ -9,7 +9,7 @@ use Rattle.xml_grammar.specs.Nesting.{has_twice}
 use Rattle.xml_grammar.specs.Sound.{IsSoundName}
 use Rattle.xml_grammar.proofs.SoundPieces.{same_bytes, bytes_same}
 use Rattle.xml_grammar.proofs.Repeats.{apart_from_test, fails_differ}
-pub use Rattle.xmp_tree.proofs.PlaceLemmas.{same_name_is}
+pub use Rattle.xmp_values.proofs.SameNames.{same_name_is}
 use Rattle.xmp_tree.specs.Wf.{IsOwnSpace, IsNamed, lang_name, type_name}
 use Rattle.rdf_forms.specs.Words.{rdf_space, xml_space, same_name, rdf, is_rdf, in_rdf, in_xml, in_none, is_own}
 use Rattle.rdf_forms.specs.MemberRules.{has_again}

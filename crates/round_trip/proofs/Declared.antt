@@ -83,15 +83,15 @@ top_once about ps h =
     or_from (list_any (λ (b : RawAttribute). same_qname (in_rdf_prefix (codes "about")) b.name) (map declared ps)) (has_twice (λ (a b : RawAttribute). same_qname a.name b.name) (map declared ps))
     (no_about about ps) (declared_once ps h)
 
--- ---- what is bound behind them
+-- ---- what is bound after them
 
 -- a prefix that none of them declares
-pub bound_behind : (ps : List Hint) (outer : List Binding) (prefix : List ℕ) → All (λ h. bytes_eq h.prefix prefix ≡ false) ps
+pub bound_after : (ps : List Hint) (outer : List Binding) (prefix : List ℕ) → All (λ h. bytes_eq h.prefix prefix ≡ false) ps
     → bound_to (map bound_by ps ++ outer) (Some prefix) ≡ bound_to outer (Some prefix)
-bound_behind [] outer prefix all = refl
-bound_behind (h ∷ hs) outer prefix all =
+bound_after [] outer prefix all = refl
+bound_after (h ∷ hs) outer prefix all =
     ap (λ (b : Bool). cond b (Some h.space) (bound_to (map bound_by hs ++ outer) (Some prefix))) (All-head (λ h. bytes_eq h.prefix prefix ≡ false) h hs all)
-    ∙ bound_behind hs outer prefix (All-tail (λ h. bytes_eq h.prefix prefix ≡ false) h hs all)
+    ∙ bound_after hs outer prefix (All-tail (λ h. bytes_eq h.prefix prefix ≡ false) h hs all)
 
 pub each_fresh : (word : List ℕ) (tells : (h : Hint) → IsDeclarable h → bytes_eq h.prefix word ≡ false) (ps : List Hint) → AreDeclarable ps → All (λ h. bytes_eq h.prefix word ≡ false) ps
 each_fresh word tells [] h = All-nil (λ h. bytes_eq h.prefix word ≡ false)

@@ -12,7 +12,7 @@ use Rattle.xml_grammar.specs.declared.elements.Element.{Element}
 use Rattle.xml_grammar.specs.Pieces.{Character}
 use Rattle.xml_grammar.specs.Nesting.{Nest, start, broken}
 use Rattle.xml_grammar.specs.Trees.{events, events_of, first_hints}
-use Rattle.xml_grammar.specs.Documents.{mark_width, behind_mark, Reads, IsDocument}
+use Rattle.xml_grammar.specs.Documents.{mark_width, after_mark, Reads, IsDocument}
 use Rattle.round_trip.proofs.Packets.{is_pad, header_chars}
 use Rattle.xmp_tree.specs.Parts.{Parts}
 use Rattle.xmp_write.specs.declared.forms.Form.{Form}
@@ -64,11 +64,11 @@ pad_spelt rooted at (c ∷ cs) h =
     by (inr h) = inr (eqb-true c 0xA h)
 
 -- a text that begins with `<` has no mark
-no_mark : (cs rest : List ℕ) → encode_utf8_all cs ≡ 0x3C ∷ rest → (mark_width cs ≡ 0) × (behind_mark cs ≡ cs)
+no_mark : (cs rest : List ℕ) → encode_utf8_all cs ≡ 0x3C ∷ rest → (mark_width cs ≡ 0) × (after_mark cs ≡ cs)
 no_mark [] rest is = absurd cc
 no_mark (c ∷ cs) rest is =
     let one : c ≡ 0x3C = char_from_byte (0x3C ∷ rest) (encode_utf8_all cs) c (sym is) (omega arith) (omega arith) in
-    subst (λ (c : ℕ). (mark_width (c ∷ cs) ≡ 0) × (behind_mark (c ∷ cs) ≡ c ∷ cs)) (sym one) (refl, refl)
+    subst (λ (c : ℕ). (mark_width (c ∷ cs) ≡ 0) × (after_mark (c ∷ cs) ≡ c ∷ cs)) (sym one) (refl, refl)
 
 -- a text from `<` on that pieces spell to its end, and whose events are those of an element, has that document
 document_of : (hs : List Hint) (text rest : List ℕ) (root : Element) → text ≡ 0x3C ∷ rest → IsSpeltWith hs Anything start 0 text (λ es. events (child.Element root) ++ es) (around_root true)
@@ -77,12 +77,12 @@ document_of hs text rest root first h apart =
     let read : chars text ≡ h.chars = ap chars h.utf8 ∙ chars-encodes h.chars h.scalar in
     let mark = no_mark h.chars rest (sym h.utf8 ∙ first) in
     let all : Reads start 0 h.pieces h.chars [] = subst (λ (x : List ℕ). Reads start 0 h.pieces x []) (append-nil h.chars) (h.read [] tt) in
-    let begun : Reads start (mark_width h.chars) h.pieces (behind_mark h.chars) [] =
-    subst (λ (n : ℕ). Reads start n h.pieces (behind_mark h.chars) []) (sym mark.0) (subst (λ (x : List ℕ). Reads start 0 h.pieces x []) (sym mark.1) all) in
+    let begun : Reads start (mark_width h.chars) h.pieces (after_mark h.chars) [] =
+    subst (λ (n : ℕ). Reads start n h.pieces (after_mark h.chars) []) (sym mark.0) (subst (λ (x : List ℕ). Reads start 0 h.pieces x []) (sym mark.1) all) in
     record {
       utf8 = (h.chars, (h.scalar, sym h.utf8));
       pieces = h.pieces;
-      read = subst (λ (x : List ℕ). Reads start (mark_width x) h.pieces (behind_mark x) []) (sym read) begun;
+      read = subst (λ (x : List ℕ). Reads start (mark_width x) h.pieces (after_mark x) []) (sym read) begun;
       closed = ap (λ (n : Nest). n.levels) h.ends;
       rooted = ap (λ (n : Nest). n.rooted) h.ends;
       tree = ap (events_of start) (sym (append-nil h.pieces)) ∙ h.means [] ∙ append-nil (events (child.Element root));

@@ -15,7 +15,8 @@ use Rattle.xml_grammar.specs.declared.tags.QName.{QName}
 use Rattle.xml_grammar.specs.declared.tags.RawAttribute.{RawAttribute}
 use Rattle.xml_grammar.specs.declared.tags.Tag.{Tag}
 use Rattle.xml_grammar.specs.Pieces.{Start, End, Character, Spells}
-use Rattle.xml_grammar.specs.Scopes.{Binding, bindings_of, plain_attributes, bound_to, or_nothing, element_name, expanded, expanded_attributes, is_misbound, is_unbound, same_qname, same_name}
+use Rattle.xmp_values.specs.Names.{same_name}
+use Rattle.xml_grammar.specs.Scopes.{Binding, bindings_of, plain_attributes, bound_to, or_nothing, element_name, expanded, expanded_attributes, is_misbound, is_unbound, same_qname}
 use Rattle.xml_grammar.specs.Nesting.{Level, Nest, start, bound_at, has_twice, misbinds, unbinds, repeats, broken}
 use Rattle.xml_grammar.specs.Trees.{Event, Opens, Closes, put, events_of, hint_of}
 use Rattle.xmp_tree.specs.Wf.{lang_name, type_name}
@@ -31,7 +32,7 @@ use Rattle.xmp_values.proofs.CharacterTexts.{name_scalars}
 use Rattle.round_trip.proofs.Escapes.{scalars_append}
 use Rattle.round_trip.proofs.Marks.{in_rdf_prefix}
 use Rattle.round_trip.specs.Law.{meta_hint, rdf_hint}
-use Rattle.round_trip.proofs.Declared.{declared, top_raws, top_spelled, declares, none_plain, none_misbound, top_once, bound_behind, bound_here, each_fresh, found_named}
+use Rattle.round_trip.proofs.Declared.{declared, top_raws, top_spelled, declares, none_plain, none_misbound, top_once, bound_after, bound_here, each_fresh, found_named}
 use Rattle.round_trip.proofs.Built.{IsTagName}
 use Rattle.round_trip.proofs.Writing.{IsScope}
 
@@ -83,19 +84,19 @@ rdf_bound : (about : List ℕ) (ps : List Hint) → AreDeclarable ps → bound_t
 unfolding rdf_space
 rdf_bound about ps h =
     ap (λ (bs : List Binding). bound_to bs (Some (codes "rdf"))) (top_bound about ps)
-    ∙ bound_behind ps rdf_level.bound (codes "rdf") (each_fresh (codes "rdf") (λ g k. k.not_rdf) ps h)
+    ∙ bound_after ps rdf_level.bound (codes "rdf") (each_fresh (codes "rdf") (λ g k. k.not_rdf) ps h)
 
 xml_bound : (about : List ℕ) (ps : List Hint) → AreDeclarable ps → bound_to (top_level about ps).bound (Some (codes "xml")) ≡ Some xml_space
 unfolding xml_space
 xml_bound about ps h =
     ap (λ (bs : List Binding). bound_to bs (Some (codes "xml"))) (top_bound about ps)
-    ∙ bound_behind ps rdf_level.bound (codes "xml") (each_fresh (codes "xml") (λ g k. k.not_xml) ps h)
+    ∙ bound_after ps rdf_level.bound (codes "xml") (each_fresh (codes "xml") (λ g k. k.not_xml) ps h)
 
 x_bound : (about : List ℕ) (ps : List Hint) → AreDeclarable ps → bound_to (top_level about ps).bound (Some (codes "x")) ≡ Some meta_space
 unfolding meta_space
 x_bound about ps h =
     ap (λ (bs : List Binding). bound_to bs (Some (codes "x"))) (top_bound about ps)
-    ∙ bound_behind ps rdf_level.bound (codes "x") (each_fresh (codes "x") (λ g k. k.not_x) ps h)
+    ∙ bound_after ps rdf_level.bound (codes "x") (each_fresh (codes "x") (λ g k. k.not_x) ps h)
 
 prefixed : (bs : List Binding) (name : Name) (prefix bytes : List ℕ) → IsName prefix → IsName name.local → bound_to bs (Some prefix) ≡ Some name.space
     → bytes ≡ prefix ++ codes ":" ++ name.local → IsTagName bs name bytes

@@ -11,7 +11,8 @@ use Rattle.xml_grammar.specs.declared.elements.Attribute.{Attribute}
 use Rattle.xml_grammar.specs.declared.tags.QName.{QName}
 use Rattle.xml_grammar.specs.declared.tags.RawAttribute.{RawAttribute}
 use Rattle.xml_grammar.specs.Spelling.{SpellsQName, SpellsAttribute, SpellsAttributes, SpellsValue, quoted}
-use Rattle.xml_grammar.specs.Scopes.{Binding, bindings_of, plain_attributes, bound_to, expanded_attributes, is_unbound, same_qname, same_name}
+use Rattle.xmp_values.specs.Names.{same_name}
+use Rattle.xml_grammar.specs.Scopes.{Binding, bindings_of, plain_attributes, bound_to, expanded_attributes, is_unbound, same_qname}
 use Rattle.xml_grammar.specs.Nesting.{has_twice}
 use Rattle.xmp_tree.specs.Wf.{lang_name}
 use Rattle.rdf_forms.specs.Words.{rdf_space, xml_space}
@@ -172,7 +173,7 @@ once_each (Some tag) Parsed = refl
 once_each (Some tag) (Resource uri) = refl
 
 apart_each : (lang : Option (List ℕ)) (mark : Mark) → has_twice (λ (a b : Attribute). same_name a.name b.name) (row lang mark) ≡ false
-unfolding lang_name rdf_space xml_space
+unfolding lang_name rdf_space xml_space same_name
 apart_each None Plain = refl
 apart_each None Parsed = refl
 apart_each None (Resource uri) = refl

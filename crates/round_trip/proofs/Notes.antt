@@ -97,10 +97,10 @@ note_named = record { chars = note_space.1; local = (codes "HasExtendedXMP", ref
 abbrev pub note_member : List ℕ → Member
 note_member digits = member note_name (simple digits)
 
--- well-formed members behind the note are well-formed with it
-pub behind_note : (note : Option (List ℕ)) (ms : List Member) → IsNote note → AreWellFormed 24 ms → All (λ m. name_of m ≢ note_name) ms → AreWellFormed 24 (note_members note ++ ms)
-behind_note None ms h wf apart = wf
-behind_note (Some digits) ms h wf apart =
+-- well-formed members after the note are well-formed with it
+pub after_note : (note : Option (List ℕ)) (ms : List Member) → IsNote note → AreWellFormed 24 ms → All (λ m. name_of m ≢ note_name) ms → AreWellFormed 24 (note_members note ++ ms)
+after_note None ms h wf apart = wf
+after_note (Some digits) ms h wf apart =
     let m : Member = note_member digits in
     let named : name_of m ≡ note_name = name-member note_name (simple digits) in
     let depth = depth-member note_name (simple digits) in
@@ -170,7 +170,7 @@ placed_note (p ∷ ps) = by (is_note p) (placed_note ps)
 
 pub tree_read_back : TreeReadBack
 tree_read_back t note levels root h wf is enough =
-    let read = members_read_back t.about (note_members note ++ t.props) levels root h (behind_note note t.props is wf.props wf.note) enough in
+    let read = members_read_back t.about (note_members note ++ t.props) levels root h (after_note note t.props is wf.props wf.note) enough in
     let props : map (λ (p : Placed). p.1) (properties levels root) ≡ t.props =
     sym (filter-map (λ (p : Placed). p.1) (λ m. not (is_note_member m)) (all_placed levels root))
     ∙ ap (filter (λ m. not (is_note_member m))) read.members ∙ others_kept note t.props wf.note in

@@ -18,9 +18,9 @@ no_suffix : (passes : ℕ → Bool) (front : List ℕ) (c : ℕ) → passes c �
 no_suffix passes front c fails =
     ap (prefix_len passes) (reverse-append front (c ∷ [])) ∙ ap (λ (b : Bool). cond b (1 + prefix_len passes (reverse front)) 0) fails
 
--- nothing stands behind the trailer
-nothing_behind : (passes : ℕ → Bool) (front : List ℕ) → passes 0x3E ≡ false → without_end passes (front ++ trailer) ≡ front ++ trailer
-nothing_behind passes front fails =
+-- nothing stands after the trailer
+nothing_after : (passes : ℕ → Bool) (front : List ℕ) → passes 0x3E ≡ false → without_end passes (front ++ trailer) ≡ front ++ trailer
+nothing_after passes front fails =
     let all : List ℕ = front ++ trailer in
     let none : suffix_len passes all ≡ 0 =
     ap (suffix_len passes) (sym (append_assoc front (codes "<?xpacket end=\"w\"?") (codes ">"))) ∙ no_suffix passes (front ++ codes "<?xpacket end=\"w\"?") 0x3E fails in
@@ -40,7 +40,7 @@ module _ (ps : List Hint) (t : Parts) (form : Form) (len : ℕ) where
   parts = refl
 
   pub text_is : packet_text (packet ps t form len) ≡ packet ps t form len
-  text_is = ap packet_text parts ∙ nothing_behind (λ byte. byte == 0) front refl ∙ sym parts
+  text_is = ap packet_text parts ∙ nothing_after (λ byte. byte == 0) front refl ∙ sym parts
 
   begins : starts_with nat_eq (front ++ trailer) (codes "<?xpacket begin=") ≡ true
   begins = refl
@@ -50,7 +50,7 @@ module _ (ps : List Hint) (t : Parts) (form : Form) (len : ℕ) where
   for_writing =
       and_from (starts_with nat_eq (front ++ trailer) (codes "<?xpacket begin=")) _ begins
       (or_left (ends_with nat_eq (without_end is_blank (front ++ trailer)) (codes "<?xpacket end=\"w\"?>")) _
-      (ap (λ (x : List ℕ). ends_with nat_eq x trailer) (nothing_behind is_blank front refl) ∙ ends_so front))
+      (ap (λ (x : List ℕ). ends_with nat_eq x trailer) (nothing_after is_blank front refl) ∙ ends_so front))
 
   pub may_write_again : IsTrue (is_writable (packet ps t form len))
   may_write_again = ap is_packet_for_writing (text_is ∙ parts) ∙ for_writing

@@ -24,7 +24,7 @@ abbrev pub inside : List Level → Nest
 inside ls = record { first = false; levels = ls; rooted = true }
 
 -- Bytes at a place that pieces spell whatever follows that is so, the prefixes that the pieces declare, what they add before later
--- events, and the nest behind.
+-- events, and the nest after.
 pub record IsSpeltWith (hs : List Hint) (Before : List ℕ → Type 0) (s : Nest) (at : ℕ) (bytes : List ℕ) (adds : List Event → List Event) (t : Nest) : Type 0 where
   pub chars : List ℕ
   pub utf8 : bytes ≡ encode_utf8_all chars
@@ -137,8 +137,8 @@ no_close (c ∷ cs) left tagged (more, at) =
     let f = front_of c in
     let e : f.head ∷ ((f.rest ++ text_escaped cs) ++ left) ≡ 0x5D ∷ 0x3E ∷ more = ap (λ (t : List ℕ). (t ++ text_escaped cs) ++ left) (sym f.is) ∙ at in
     let none = f.one (head_same f.head 0x5D ((f.rest ++ text_escaped cs) ++ left) (0x3E ∷ more) e) in
-    let behind : (f.rest ++ text_escaped cs) ++ left ≡ 0x3E ∷ more = tail_same f.head 0x5D ((f.rest ++ text_escaped cs) ++ left) (0x3E ∷ more) e in
-    no_end cs left tagged (more, ap (λ (t : List ℕ). (t ++ text_escaped cs) ++ left) (sym none) ∙ behind)
+    let after : (f.rest ++ text_escaped cs) ++ left ≡ 0x3E ∷ more = tail_same f.head 0x5D ((f.rest ++ text_escaped cs) ++ left) (0x3E ∷ more) e in
+    no_end cs left tagged (more, ap (λ (t : List ℕ). (t ++ text_escaped cs) ++ left) (sym none) ∙ after)
 
 -- the piece stands there, breaks no rule, and is the character
 record IsTextPiece (l : Level) (ls : List Level) (at c : ℕ) (p : Piece) (front : List ℕ) : Type 0 where

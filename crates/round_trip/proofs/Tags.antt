@@ -12,7 +12,8 @@ use Rattle.xml_grammar.specs.declared.tags.RawAttribute.{RawAttribute}
 use Rattle.xml_grammar.specs.declared.tags.Tag.{Tag}
 use Rattle.xml_grammar.specs.Spelling.{BeginsWith, SpellsQName, SpellsAttributes}
 use Rattle.xml_grammar.specs.Pieces.{Start, End}
-use Rattle.xml_grammar.specs.Scopes.{Binding, bindings_of, is_misbound, element_name, expanded_attributes, same_prefix, same_qname, same_name}
+use Rattle.xmp_values.specs.Names.{same_name}
+use Rattle.xml_grammar.specs.Scopes.{Binding, bindings_of, is_misbound, element_name, expanded_attributes, same_prefix, same_qname}
 use Rattle.xml_grammar.specs.Nesting.{Level, has_unbound, has_twice, misbinds, unbinds, repeats, is_too_deep, broken}
 use Rattle.xml_grammar.specs.Trees.{Event, Opens, Closes, hint_of}
 use Rattle.xml_grammar.proofs.SoundPieces.{bytes_same}
@@ -152,9 +153,9 @@ module _ (l : Level) (ls : List Level) (q : QName) (raws : List RawAttribute) (n
       → IsSpelt Tagged (inside (level_of l q raws ∷ l ∷ ls)) (at + length (codes "<" ++ name ++ attributes ++ codes ">")) bytes f (inside (level_of l q raws ∷ l ∷ ls))
       → IsSpelt Anything (inside (l ∷ ls)) at (element_text name attributes bytes) (λ es. opens at ∷ f (Closes ∷ es)) (inside (l ∷ ls))
   element_spelt at bytes f k =
-      let behind : ℕ = at + length (codes "<" ++ name ++ attributes ++ codes ">") in
-      let inner = spelt_then Tagged Anything (inside (level_of l q raws ∷ l ∷ ls)) (inside (level_of l q raws ∷ l ∷ ls)) (inside (l ∷ ls)) behind bytes (codes "</" ++ name ++ codes ">") f (λ es. Closes ∷ es)
-      k (end_spelt (behind + length bytes)).0 (λ left any. (end_spelt (behind + length bytes)).1 left) in
+      let after : ℕ = at + length (codes "<" ++ name ++ attributes ++ codes ">") in
+      let inner = spelt_then Tagged Anything (inside (level_of l q raws ∷ l ∷ ls)) (inside (level_of l q raws ∷ l ∷ ls)) (inside (l ∷ ls)) after bytes (codes "</" ++ name ++ codes ">") f (λ es. Closes ∷ es)
+      k (end_spelt (after + length bytes)).0 (λ left any. (end_spelt (after + length bytes)).1 left) in
       let all = spelt_then Anything Anything (inside (l ∷ ls)) (inside (level_of l q raws ∷ l ∷ ls)) (inside (l ∷ ls)) at (codes "<" ++ name ++ attributes ++ codes ">") (bytes ++ (codes "</" ++ name ++ codes ">"))
       (λ es. opens at ∷ es) (λ es. f (Closes ∷ es)) (start_spelt at) inner (λ left any. tt) in
       subst (λ (b : List ℕ). IsSpelt Anything (inside (l ∷ ls)) at b (λ es. opens at ∷ f (Closes ∷ es)) (inside (l ∷ ls))) (regroup (codes "<") name attributes (codes ">") bytes (codes "</")) all

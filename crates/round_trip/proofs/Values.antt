@@ -249,12 +249,12 @@ qualifier_allowed m other h = by (is_rdf (codes "type") (tree.name_of m)) refl
     by true is = let same = (type_is (tree.name_of m)).0 is in inr (same, refl, h.kind same)
     by false is = inl (h.own other (λ same. both_ways (is_rdf (codes "type") (tree.name_of m)) is ((type_is (tree.name_of m)).1 same)))
 
--- those behind the first
-behind_allowed : (m : Member) (ms : List Member) → AreQualifiers (m ∷ ms) → All (IsAllowed (holders.Value true)) ms
-behind_allowed m ms h k d lt = qualifier_allowed _ (h.lang_first 0 (suc k) d (omega arith) (omega arith)) (h.each (suc k) d (omega arith))
+-- those after the first
+after_allowed : (m : Member) (ms : List Member) → AreQualifiers (m ∷ ms) → All (IsAllowed (holders.Value true)) ms
+after_allowed m ms h k d lt = qualifier_allowed _ (h.lang_first 0 (suc k) d (omega arith) (omega arith)) (h.each (suc k) d (omega arith))
 
-behind_apart : (m : Member) (ms : List Member) → AreQualifiers (m ∷ ms) → NamesDiffer ms
-behind_apart m ms h = (differ_cons m ms h.apart).1
+after_apart : (m : Member) (ms : List Member) → AreQualifiers (m ∷ ms) → NamesDiffer ms
+after_apart m ms h = (differ_cons m ms h.apart).1
 
 -- the first, where it isn't `xml:lang`
 first_allowed : (name : Name) (v : Value) (ms : List Member) → is_tag name ≡ false → AreQualifiers (Member' name v ∷ ms) → IsAllowed (holders.Value true) (Member' name v)
@@ -267,14 +267,14 @@ others_end levels depth es h wf quals deep enough =
 others_more : (name : Name) (v : Value) (n : Count) (rest : Row_of-Member n) → ValueReads v → MembersReads n rest → OthersReads _ (more_of-Member (Member' name v) rest)
 others_more name v n rest ih ihs levels depth es h wf quals deep enough = by (is_tag name) refl h
   where
-    behind : (others : List Element) → AreMembers others rest → MembersRead levels depth (holders.Value true) others (items-the_row-Member n rest)
-    behind others k = ihs levels depth (holders.Value true) others k wf.1 (behind_allowed (Member' name v) (items-the_row-Member n rest) quals) (omega arith) (omega arith)
+    after : (others : List Element) → AreMembers others rest → MembersRead levels depth (holders.Value true) others (items-the_row-Member n rest)
+    after others k = ihs levels depth (holders.Value true) others k wf.1 (after_allowed (Member' name v) (items-the_row-Member n rest) quals) (omega arith) (omega arith)
 
     by : (b : Bool) → is_tag name ≡ b → Chosen b (AreMembers es rest) (Begun (λ x. IsWritten x name v) (λ others. AreMembers others rest) es)
         → MembersRead levels depth (holders.Value true) es (cond b (items-the_row-Member n rest) (Member' name v ∷ items-the_row-Member n rest))
-    by true is h = behind es h
+    by true is h = after es h
     by false is h =
-        member_first name v n rest ih levels depth (holders.Value true) es h wf.0.1 (first_allowed name v (items-the_row-Member n rest) is quals) (omega arith) (omega arith) behind
+        member_first name v n rest ih levels depth (holders.Value true) es h wf.0.1 (first_allowed name v (items-the_row-Member n rest) is quals) (omega arith) (omega arith) after
 
 simple_is : (s : Shape) → tree.IsSimpleLayer (out-Shape s) → Simple (simple_in s) ≡ s
 unfolding out-Shape out
@@ -308,19 +308,19 @@ others_allowed : (n : Count) (q : Row_of-Member n) → AreQualifiers (items-the_
 others_allowed n end_of-Member h = All-nil (IsAllowed (holders.Value true))
 others_allowed n (more_of-Member (Member' name v) rest) h = by (is_tag name) refl
   where
-    behind : All (IsAllowed (holders.Value true)) (items-the_row-Member _ rest)
-    behind = behind_allowed (Member' name v) (items-the_row-Member _ rest) h
+    after : All (IsAllowed (holders.Value true)) (items-the_row-Member _ rest)
+    after = after_allowed (Member' name v) (items-the_row-Member _ rest) h
 
     by : (b : Bool) → is_tag name ≡ b → All (IsAllowed (holders.Value true)) (cond b (items-the_row-Member _ rest) (Member' name v ∷ items-the_row-Member _ rest))
-    by true is = behind
-    by false is = All-cons (IsAllowed (holders.Value true)) (Member' name v) (items-the_row-Member _ rest) (first_allowed name v (items-the_row-Member _ rest) is h) behind
+    by true is = after
+    by false is = All-cons (IsAllowed (holders.Value true)) (Member' name v) (items-the_row-Member _ rest) (first_allowed name v (items-the_row-Member _ rest) is h) after
 
 others_apart : (n : Count) (q : Row_of-Member n) → AreQualifiers (items-the_row-Member n q) → NamesDiffer (other_items n q)
 others_apart n end_of-Member h = h.apart
 others_apart n (more_of-Member (Member' name v) rest) h = by (is_tag name)
   where
     by : (b : Bool) → NamesDiffer (cond b (items-the_row-Member _ rest) (Member' name v ∷ items-the_row-Member _ rest))
-    by true = behind_apart (Member' name v) (items-the_row-Member _ rest) h
+    by true = after_apart (Member' name v) (items-the_row-Member _ rest) h
     by false = h.apart
 
 none_more : (n : Count) (q : Row_of-Member n) → is_more q ≡ false → items-the_row-Member n q ≡ []

@@ -10,7 +10,7 @@ use Rattle.xml_grammar.specs.declared.elements.Element.{Element}
 use Rattle.xml_grammar.specs.Pieces.{Piece, Declaration, Instruction, Comment, Cdata, Start, End, Reference, LineEnd, Character, Spells, tag_close}
 use Rattle.xml_grammar.specs.Nesting.{start, enter, broken}
 use Rattle.xml_grammar.specs.Trees.{Placed}
-use Rattle.xml_grammar.specs.Documents.{width, mark_width, behind_mark, Reads, IsDocument}
+use Rattle.xml_grammar.specs.Documents.{width, mark_width, after_mark, Reads, IsDocument}
 use Rattle.xml_grammar.proofs.Splits.{head_same, tail_same, cons_same, not_both}
 use Rattle.xml_grammar.proofs.Unbroken.{unbroken}
 use Rattle.xml_grammar.proofs.OnePiece.{kind_at, kind, kind_is}
@@ -131,7 +131,7 @@ question_chars (c ∷ d ∷ cs) y rest e =
     let low = q.2 in
     (cs, cons_same c y (d ∷ cs) (0x3F ∷ cs) qc (cons_same d 0x3F cs cs r.0 refl), omega arith)
 
-low_mark : (b : ℕ) (cs : List ℕ) → b < 128 → behind_mark (b ∷ cs) ≡ b ∷ cs
+low_mark : (b : ℕ) (cs : List ℕ) → b < 128 → after_mark (b ∷ cs) ≡ b ∷ cs
 low_mark b cs low = by (b == 0xFEFF) refl
   where
     by : (t : Bool) → (b == 0xFEFF) ≡ t → cond t cs (b ∷ cs) ≡ b ∷ cs
@@ -145,5 +145,5 @@ gate b rest e h d = by (b == 0x3C) refl
     by true is = eqb-true b 0x3C is
     by false is =
         let q = question_chars (chars (b ∷ 0x3F ∷ rest)) b rest (encodes-chars (b ∷ 0x3F ∷ rest) d.utf8) in
-        let body : behind_mark (chars (b ∷ 0x3F ∷ rest)) ≡ b ∷ 0x3F ∷ q.0 = ap behind_mark q.1 ∙ low_mark b (0x3F ∷ q.0) q.2 in
-        absurd (no_start (mark_width (chars (b ∷ 0x3F ∷ rest))) d.pieces (behind_mark (chars (b ∷ 0x3F ∷ rest))) q.0 b body (eqb-false b 0x3C is) d.read)
+        let body : after_mark (chars (b ∷ 0x3F ∷ rest)) ≡ b ∷ 0x3F ∷ q.0 = ap after_mark q.1 ∙ low_mark b (0x3F ∷ q.0) q.2 in
+        absurd (no_start (mark_width (chars (b ∷ 0x3F ∷ rest))) d.pieces (after_mark (chars (b ∷ 0x3F ∷ rest))) q.0 b body (eqb-false b 0x3C is) d.read)

@@ -169,8 +169,8 @@ not_itself : (m : ℕ) → is_not m m ≡ false
 not_itself m = ap not (eq-eqb m m refl)
 
 -- a needle that begins with m stands in no text without m, and so not across its end
-lacks_behind : (m : ℕ) (needle u v : List ℕ) → IsTrue (list_all (is_not m) u) → Lacks (m ∷ needle) v → Lacks (m ∷ needle) (u ++ v)
-lacks_behind m needle u v none lacks before after e = from (overlap u v before (m ∷ needle ++ after) (e ∙ append_assoc before (m ∷ needle) after))
+lacks_after : (m : ℕ) (needle u v : List ℕ) → IsTrue (list_all (is_not m) u) → Lacks (m ∷ needle) v → Lacks (m ∷ needle) (u ++ v)
+lacks_after m needle u v none lacks before after e = from (overlap u v before (m ∷ needle ++ after) (e ∙ append_assoc before (m ∷ needle) after))
   where
     inside : (more : List ℕ) → u ≡ before ++ more → m ∷ needle ++ after ≡ more ++ v → ⊥
     inside [] is e = lacks [] after (sym e)
@@ -199,14 +199,14 @@ InstructionText text = (target : List ℕ) × (inside : List ℕ) × IsTarget ta
 
 inside_lacks : (inside : List ℕ) → IsInstructionText inside → Lacks (codes "?>") inside
 inside_lacks inside (inl none) = subst (Lacks (codes "?>")) (sym none) (nothing_lacks 0x3F (codes ">"))
-inside_lacks inside (inr (gap, body, hg, chars, lacks, at)) = subst (Lacks (codes "?>")) (sym at) (lacks_behind 0x3F (codes ">") gap body (blank_no_mark gap (gap_blank gap hg)) lacks)
+inside_lacks inside (inr (gap, body, hg, chars, lacks, at)) = subst (Lacks (codes "?>")) (sym at) (lacks_after 0x3F (codes ">") gap body (blank_no_mark gap (gap_blank gap hg)) lacks)
 
 pub instruction_row : (a b c d : List ℕ) → InstructionText a → InstructionText b → a ++ c ≡ b ++ d → (a ≡ b) × (c ≡ d)
 instruction_row a b c d (target, inside, ht, hi, at) (target', inside', ht', hi', at') e =
     let row : codes "<?" ++ (target ++ inside ++ codes "?>" ++ c) ≡ codes "<?" ++ (target' ++ inside' ++ codes "?>" ++ d) = ap (λ (t : List ℕ). t ++ c) (sym at) ∙ e ∙ ap (λ (t : List ℕ). t ++ d) at' in
     let r = question_ended (target ++ inside) c (target' ++ inside') d
-    (lacks_behind 0x3F (codes ">") target inside (name_no_mark target ht.0) (inside_lacks inside hi))
-    (lacks_behind 0x3F (codes ">") target' inside' (name_no_mark target' ht'.0) (inside_lacks inside' hi'))
+    (lacks_after 0x3F (codes ">") target inside (name_no_mark target ht.0) (inside_lacks inside hi))
+    (lacks_after 0x3F (codes ">") target' inside' (name_no_mark target' ht'.0) (inside_lacks inside' hi'))
     (append_cancel_left (codes "<?") (target ++ inside ++ codes "?>" ++ c) (target' ++ inside' ++ codes "?>" ++ d) row) in
     (at ∙ ap (λ (t : List ℕ). codes "<?" ++ (t ++ codes "?>")) r.0 ∙ sym at', r.1)
 

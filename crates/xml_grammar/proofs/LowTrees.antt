@@ -17,7 +17,7 @@ use Rattle.xml_grammar.specs.declared.elements.Element.{Element}
 use Rattle.xml_grammar.specs.Pieces.{Piece, Declaration, Instruction, Comment, Cdata, Start, End, Reference, LineEnd, Character}
 use Rattle.xml_grammar.specs.Nesting.{Level, Nest, start, outer, opened, enter, broken}
 use Rattle.xml_grammar.specs.Trees.{Placed, Event, Opens, Words, Closes, joined, events, put, put_inside, closing, piece_events, events_of}
-use Rattle.xml_grammar.specs.Documents.{width, mark_width, behind_mark, Reads, IsDocument}
+use Rattle.xml_grammar.specs.Documents.{width, mark_width, after_mark, Reads, IsDocument}
 use Rattle.xml_grammar.specs.Heights.{greatest, child_height, element_height, height_of, height}
 use Rattle.xml_grammar.proofs.Unbroken.{unbroken}
 use Rattle.xml_grammar.proofs.TreeEvents.{element, element_is, text_is}
@@ -60,8 +60,8 @@ greatest_within m n bound depth h k = omega arith
 all_fit : (cs : List Fitting) (depth : ℕ) (more : List Event) → depth ≤ 100 → IsShallow depth (joined (map events (children_of cs)) ++ more) → (depth + greatest (map height_of (children_of cs)) ≤ 100) × IsShallow depth more
 all_fit [] depth more low h = (omega arith, h)
 all_fit (c ∷ cs) depth more low h =
-    let behind : List Event = joined (map events (children_of cs)) in
-    let one = c.1 depth (behind ++ more) low (subst (IsShallow depth) (append_assoc (events c.0) behind more) h) in
+    let after : List Event = joined (map events (children_of cs)) in
+    let one = c.1 depth (after ++ more) low (subst (IsShallow depth) (append_assoc (events c.0) after more) h) in
     let rest = all_fit cs depth more low one.1 in
     (greatest_within (height_of c.0) (greatest (map height_of (children_of cs))) 100 depth one.0 rest.0, rest.1)
 
@@ -133,7 +133,7 @@ pieces_shallow s at (p ∷ ps) text left (place, front, back, stands, good, more
 
 pub low_document : (text : List ℕ) (root : Element) (hints : List Hint) → IsDocument text root hints → height root ≤ 100
 low_document text root hints d =
-    let h = pieces_shallow start (mark_width (chars text)) d.pieces (behind_mark (chars text)) [] d.read in
+    let h = pieces_shallow start (mark_width (chars text)) d.pieces (after_mark (chars text)) [] d.read in
     let k : IsShallow 0 (events (child.Element root) ++ []) = subst (IsShallow 0) (d.tree ∙ sym (append-nil (events (child.Element root)))) h in
     let low = (fits (child.Element root) 0 [] (omega arith) k).0 in
     omega arith

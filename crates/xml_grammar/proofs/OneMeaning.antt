@@ -18,7 +18,7 @@ use Rattle.xml_grammar.specs.Spelling.{BeginsWith}
 use Rattle.xml_grammar.specs.Pieces.{Piece, Declaration, Instruction, Comment, Cdata, Start, End, Reference, LineEnd, Character, Fits, Stands, HasPiece}
 use Rattle.xml_grammar.specs.Nesting.{Nest, start, mode_of, breaks, piece_rules, broken}
 use Rattle.xml_grammar.specs.Trees.{Placed, events_of, hints_of}
-use Rattle.xml_grammar.specs.Documents.{width, mark_width, behind_mark, Breaks, Holds, IsDocument, IsRule, IsPieceFault, IsUtf16, IsFault, nest_after}
+use Rattle.xml_grammar.specs.Documents.{width, mark_width, after_mark, Breaks, Holds, IsDocument, IsRule, IsPieceFault, IsUtf16, IsFault, nest_after}
 use Rattle.xml_grammar.proofs.Splits.{both, cons_same, head_same, tail_same, not_both}
 use Rattle.xml_grammar.proofs.Parts.{apart}
 use Rattle.xml_grammar.proofs.LeastRule.{one_in, rules_grow, is_piece_rule, broken_breaks, broken_least}
@@ -120,8 +120,8 @@ plain_piece mode LineEnd front back c rest h e k = absurd (omega arith)
 plain_piece mode (Character d) front back c rest h e k =
     let row : d ∷ back ≡ c ∷ rest = ap (λ (t : List ℕ). t ++ back) (sym h.spelled.4) ∙ e in
     let same : d ≡ c = head_same d c back rest row in
-    let behind : back ≡ rest = tail_same d c back rest row in
-    (ap is_char (sym same) ∙ h.spelled.0, λ inside is begins. h.fits inside (same ∙ is) (subst (BeginsWith (codes "]>")) (sym behind) begins))
+    let later : back ≡ rest = tail_same d c back rest row in
+    (ap is_char (sym same) ∙ h.spelled.0, λ inside is begins. h.fits inside (same ∙ is) (subst (BeginsWith (codes "]>")) (sym later) begins))
 
 bad_none : (s : Nest) (c : ℕ) (rest left : List ℕ) → IsFalse (is_char c) → left ≡ c ∷ rest → NoneStands s left
 bad_none s c rest left f at (p, front, back, stands, is) =
@@ -245,7 +245,7 @@ not_both_texts text (inr (rest, at)) (cs, (scalar, is)) = high_text cs 0xFF 0xFE
 
 pub one_document : (text : List ℕ) (e f : Element) (g h : List Hint) → IsDocument text e g → IsDocument text f h → (e ≡ f) × (g ≡ h)
 one_document text e f g h d k =
-    let same = same_reads start (mark_width (chars text)) d.pieces k.pieces (behind_mark (chars text)) [] [] d.read k.read refl in
+    let same = same_reads start (mark_width (chars text)) d.pieces k.pieces (after_mark (chars text)) [] [] d.read k.read refl in
     (same_element e f (sym d.tree ∙ ap (events_of start) same.0 ∙ k.tree), d.hinted ∙ ap hints_of same.0 ∙ sym k.hinted)
 
 -- the three ways in which a fault is one
@@ -263,7 +263,7 @@ one_piece_fault : (text : List ℕ) (q r : Rule) (m n : ℕ) → IsPieceFault te
 one_piece_fault text q r m n f g =
     let low = f.longest g.pieces g.left g.read in
     let high = g.longest f.pieces f.left f.read in
-    let same = same_reads start (mark_width (chars text)) f.pieces g.pieces (behind_mark (chars text)) f.left g.left f.read g.read (omega arith) in
+    let same = same_reads start (mark_width (chars text)) f.pieces g.pieces (after_mark (chars text)) f.left g.left f.read g.read (omega arith) in
     let rule : IsRule (nest_after start g.pieces) g.left q =
     subst (λ (z : List Placed). IsRule (nest_after start z) g.left q) same.0 (subst (λ (z : List ℕ). IsRule (nest_after start f.pieces) z q) same.1 f.rule) in
     let w : width f.left ≡ width g.left = ap width same.1 in
@@ -298,7 +298,7 @@ no_piece_fault : (text : List ℕ) (e : Element) (h : List Hint) (r : Rule) (pla
 no_piece_fault text e h r place d f =
     let low = f.longest d.pieces [] d.read in
     let none : f.left ≡ [] = nothing_left f.left (omega arith) in
-    let same = same_reads start (mark_width (chars text)) d.pieces f.pieces (behind_mark (chars text)) [] f.left d.read f.read (sym (ap length none)) in
+    let same = same_reads start (mark_width (chars text)) d.pieces f.pieces (after_mark (chars text)) [] f.left d.read f.read (sym (ap length none)) in
     let rule : IsRule (nest_after start d.pieces) [] r =
     subst (λ (z : List Placed). IsRule (nest_after start z) [] r) (sym same.0) (subst (λ (z : List ℕ). IsRule (nest_after start f.pieces) z r) none f.rule) in
     document_closed (nest_after start d.pieces) d.closed d.rooted (says_open (nest_after start d.pieces) r (says (nest_after start d.pieces) [] r rule.0))

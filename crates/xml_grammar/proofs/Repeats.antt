@@ -8,22 +8,15 @@ use Rattle.std.proofs.lemmas.List.Kept.{AllPairs-cons}
 use Rattle.xmp_values.specs.declared.text.Name.{Name}
 use Rattle.xml_grammar.specs.declared.elements.Attribute.{Attribute}
 use Rattle.xml_grammar.specs.declared.tags.QName.{QName}
-use Rattle.xml_grammar.specs.Scopes.{same_prefix, same_qname, same_name}
+use Rattle.xmp_values.specs.Names.{same_name}
+use Rattle.xmp_values.proofs.SameNames.{same_name_is}
+use Rattle.xml_grammar.specs.Scopes.{same_prefix, same_qname}
 use Rattle.xml_grammar.specs.Nesting.{has_twice}
 use Rattle.xml_grammar.proofs.Splits.{both, both_again, not_both}
 use Rattle.xml_grammar.proofs.Parts.{apart}
 use Rattle.xml_grammar.proofs.SoundPieces.{neither, same_bytes, bytes_same}
 
 -- ---- equality of names
-
-pub same_name_is : (m n : Name) → (same_name m n ≡ true) ↔ (m ≡ n)
-same_name_is m n = (
-  λ e. let p = both (bytes_eq m.space n.space) (bytes_eq m.local n.local) e in
-      let s = same_bytes m.space n.space p.0 in
-      let l = same_bytes m.local n.local p.1 in
-      λ i. record { space = s i; local = l i },
-  λ e. both_again (bytes_eq m.space n.space) (bytes_eq m.local n.local) (bytes_same m.space n.space (ap (λ (z : Name). z.space) e)) (bytes_same m.local n.local (ap (λ (z : Name). z.local) e)),
-)
 
 some_is : (p q : List ℕ) → Some p ≡ Some q → p ≡ q
 some_is p q e = cc

@@ -2,6 +2,7 @@
 use Rattle.std.proofs.Common.{◌≡◌, ℕ, Bool, true, false, cond, not, ◌||◌, List, [], ◌∷◌, ◌++◌, Option, Some, None, refl, sym, ap, ◌∙◌, append_assoc, append-nil}
 use Rattle.std.specs.Prelude.{if◌then◌else◌}
 use Rattle.std.specs.List.{filter, list_any}
+use Rattle.std.specs.Option.{option_or}
 use Rattle.std.specs.Str.{bytes_eq}
 use Rattle.xmp_values.specs.declared.hints.Hint.{Hint}
 use Rattle.xml_grammar.specs.Scopes.{Binding, same_prefix, bound_to}
@@ -10,15 +11,11 @@ use Rattle.xml_grammar.proofs.SoundPieces.{same_bytes}
 
 -- ---- what is bound
 
-abbrev pub or_else : Option (List ℕ) → Option (List ℕ) → Option (List ℕ)
-or_else None o = o
-or_else (Some x) o = Some x
-
-or_cond : (b : Bool) (space : List ℕ) (o r : Option (List ℕ)) → (if b then Some space else or_else o r) ≡ or_else (if b then Some space else o) r
+or_cond : (b : Bool) (space : List ℕ) (o r : Option (List ℕ)) → (if b then Some space else option_or o r) ≡ option_or (if b then Some space else o) r
 or_cond true space o r = refl
 or_cond false space o r = refl
 
-pub bound_to-append : (a b : List Binding) (p : Option (List ℕ)) → bound_to (a ++ b) p ≡ or_else (bound_to a p) (bound_to b p)
+pub bound_to-append : (a b : List Binding) (p : Option (List ℕ)) → bound_to (a ++ b) p ≡ option_or (bound_to a p) (bound_to b p)
 bound_to-append [] b p = refl
 bound_to-append (x ∷ a) b p = ap (λ (o : Option (List ℕ)). if same_prefix x.prefix p then Some x.space else o) (bound_to-append a b p) ∙ or_cond (same_prefix x.prefix p) x.space (bound_to a p) (bound_to b p)
 

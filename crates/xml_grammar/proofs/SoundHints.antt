@@ -14,7 +14,7 @@ use Rattle.xml_grammar.specs.Pieces.{Piece, Declaration, Instruction, Comment, C
 use Rattle.xml_grammar.specs.Scopes.{Binding, binding_at, binding_of, bindings_of, is_misbound}
 use Rattle.xml_grammar.specs.Nesting.{Nest, start, enter, broken}
 use Rattle.xml_grammar.specs.Trees.{Placed, hint_at, hint_of, piece_hints, all_hints, first_hints, hints_of}
-use Rattle.xml_grammar.specs.Documents.{width, mark_width, behind_mark, Reads, IsDocument}
+use Rattle.xml_grammar.specs.Documents.{width, mark_width, after_mark, Reads, IsDocument}
 use Rattle.xml_grammar.specs.Sound.{IsSound}
 use Rattle.xml_grammar.proofs.Splits.{not_both}
 use Rattle.xml_grammar.proofs.Unbroken.{unbroken}
@@ -135,6 +135,6 @@ hints_valid s at ps text left h = record { apart = first_apart (all_hints ps); e
 
 pub document_sound : (text : List ℕ) (root : Element) (hints : List Hint) → IsDocument text root hints → IsSound root × AreValid hints
 document_sound text root hints d =
-    let sound = events_sound start (mark_width (chars text)) d.pieces (behind_mark (chars text)) [] tt d.read in
-    let valid = hints_valid start (mark_width (chars text)) d.pieces (behind_mark (chars text)) [] d.read in
+    let sound = events_sound start (mark_width (chars text)) d.pieces (after_mark (chars text)) [] tt d.read in
+    let valid = hints_valid start (mark_width (chars text)) d.pieces (after_mark (chars text)) [] d.read in
     (sound_from_events root (subst AreSoundEvents d.tree sound), subst AreValid (sym d.hinted) valid)

@@ -17,7 +17,9 @@ use Rattle.xml_grammar.specs.declared.tags.RawAttribute.{RawAttribute}
 use Rattle.xml_grammar.specs.declared.tags.Tag.{Tag}
 use Rattle.xml_grammar.specs.Spelling.{AreChars, SpellsPrefixed, Entity, Lt, Gt, Amp, Apos, Quot, entity_char, SpellsReference, line_ends_after, line_ends, normal, SpellsValueChar, SpellsValueChars, SpellsAttribute, SpellsAttributes}
 use Rattle.xml_grammar.specs.Pieces.{Piece, Declaration, Instruction, Comment, Cdata, Start, End, Reference, LineEnd, Character, Spells}
-use Rattle.xml_grammar.specs.Scopes.{xml_space, Binding, binding_at, binding_of, bindings_of, plain_attributes, same_prefix, bound_to, or_nothing, element_name, attribute_space, expanded, expanded_attributes, is_reserved, is_misbound_to, is_misbound, same_qname, same_name}
+use Rattle.xmp_values.specs.Names.{same_name}
+use Rattle.xmp_values.proofs.SameNames.{same_name_is}
+use Rattle.xml_grammar.specs.Scopes.{xml_space, Binding, binding_at, binding_of, bindings_of, plain_attributes, same_prefix, bound_to, or_nothing, element_name, attribute_space, expanded, expanded_attributes, is_reserved, is_misbound_to, is_misbound, same_qname}
 use Rattle.xml_grammar.specs.Nesting.{Level, Nest, bound_in, bound_at, outer, opened, enter, has_twice, broken}
 use Rattle.xml_grammar.specs.Trees.{Placed, Event, Opens, Words, Closes, put, put_inside, closing, piece_events, events_of}
 use Rattle.xml_grammar.specs.Documents.{width, Reads}
@@ -76,9 +78,9 @@ value_chars quote (v ∷ vs) text (front, back, one, more, is) = all_cons is_cha
 abbrev EndsRest : ℕ → List ℕ → Bool → Bool → Type 0
 EndsRest c cs b d = AreChars (if b then 0xA ∷ line_ends_after true cs else if d then line_ends_after false cs else c ∷ line_ends_after false cs)
 
-ends_chars : (behind : Bool) (cs : List ℕ) → AreChars cs → AreChars (line_ends_after behind cs)
-ends_chars behind [] h = refl
-ends_chars behind (c ∷ cs) h = chosen (c == 0xD) (behind && c == 0xA) (λ after. ends_chars after cs (all_tail is_char c cs h))
+ends_chars : (after_cr : Bool) (cs : List ℕ) → AreChars cs → AreChars (line_ends_after after_cr cs)
+ends_chars after_cr [] h = refl
+ends_chars after_cr (c ∷ cs) h = chosen (c == 0xD) (after_cr && c == 0xA) (λ after. ends_chars after cs (all_tail is_char c cs h))
   where
     chosen : (b d : Bool) → ((after : Bool) → AreChars (line_ends_after after cs)) → EndsRest c cs b d
     chosen true d more = all_cons is_char 0xA (line_ends_after true cs) blank_chars.1 (more true)
@@ -228,12 +230,6 @@ expanded_sound bs (x ∷ xs) hb hx = chosen (is_none (binding_of x)) (expanded_s
 abbrev same_attribute : Attribute → Attribute → Bool
 same_attribute a b = same_name a.name b.name
 
-name_itself : (m n : Name) → m ≡ n → same_name m n ≡ true
-name_itself m n e =
-    let a : bytes_eq m.space n.space ≡ true = bytes_same m.space n.space (ap (λ (z : Name). z.space) e) in
-    let b : bytes_eq m.local n.local ≡ true = bytes_same m.local n.local (ap (λ (z : Name). z.local) e) in
-    rw (a, b) refl
-
 abbrev Differ : Attribute → Attribute → Type 0
 Differ a b = a.name ≢ b.name
 
@@ -241,7 +237,7 @@ none_same : (x : Attribute) (xs : List Attribute) → list_any (same_attribute x
 none_same x [] h = All-nil (Differ x)
 none_same x (y ∷ ys) h =
     let n = neither (same_attribute x y) (list_any (same_attribute x) ys) h in
-    All-cons (Differ x) y ys (λ e. not_both (same_attribute x y) (name_itself x.name y.name e) n.0) (none_same x ys n.1)
+    All-cons (Differ x) y ys (λ e. not_both (same_attribute x y) ((same_name_is x.name y.name).1 e) n.0) (none_same x ys n.1)
 
 names_apart : (xs : List Attribute) → has_twice same_attribute xs ≡ false → AllPairs Differ xs
 names_apart [] h = λ i j d below within. absurd (omega arith)

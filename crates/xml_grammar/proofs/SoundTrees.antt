@@ -76,8 +76,8 @@ children_of cs = map (λ (e : Following). e.0) cs
 all_follow : (cs : List Following) → AreSoundEvents (joined (map events (children_of cs))) → All IsSoundChild (children_of cs)
 all_follow [] h = All-nil IsSoundChild
 all_follow (c ∷ cs) h =
-    let behind : List Event = joined (map events (children_of cs)) in
-    All-cons IsSoundChild c.0 (children_of cs) (c.1 (front_sound (events c.0) behind h)) (all_follow cs (back_sound (events c.0) behind h))
+    let after : List Event = joined (map events (children_of cs)) in
+    All-cons IsSoundChild c.0 (children_of cs) (c.1 (front_sound (events c.0) after h)) (all_follow cs (back_sound (events c.0) after h))
 
 element_follows : (at : ℕ) (name : Name) (attributes : List Attribute) (cs : List Following) → Follows (child.Element (element at name attributes (children_of cs)))
 element_follows at name attributes cs h =

@@ -6,7 +6,7 @@ use Rattle.xmp_values.specs.declared.rules.Rule.{Rule}
 use Rattle.xml_grammar.specs.Pieces.{Piece, Stands}
 use Rattle.xml_grammar.specs.Nesting.{Nest, start, mode_of, enter, breaks, broken}
 use Rattle.xml_grammar.specs.Trees.{Placed}
-use Rattle.xml_grammar.specs.Documents.{width, mark_width, behind_mark, Reads, nest_after, Begins, Holds, IsRule, IsPieceFault}
+use Rattle.xml_grammar.specs.Documents.{width, mark_width, after_mark, Reads, nest_after, Begins, Holds, IsRule, IsPieceFault}
 use Rattle.xml_grammar.proofs.Splits.{not_both}
 use Rattle.xml_grammar.proofs.LeastRule.{unbroken_none}
 use Rattle.xml_grammar.proofs.OnePiece.{one_piece}
@@ -50,7 +50,7 @@ fault_made text r place ps left utf8 read ends rule = record {
   pieces = ps;
   left = left;
   read = read;
-  longest = λ others rest other. goes_no_further start (mark_width (chars text)) ps others (behind_mark (chars text)) left rest read (rule_stops (nest_after start ps) left r rule) other;
+  longest = λ others rest other. goes_no_further start (mark_width (chars text)) ps others (after_mark (chars text)) left rest read (rule_stops (nest_after start ps) left r rule) other;
   ends = ends;
   rule = rule;
 }

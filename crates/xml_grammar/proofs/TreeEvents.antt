@@ -76,9 +76,9 @@ all_add : (cs : List Added) (top : Frame) (outer : List Frame) (more : List Even
     → build (top, outer) (joined (map events (children_of cs)) ++ more) ≡ build (with_children top (children_of cs), outer) more
 all_add [] top outer more = ap (λ (cs : List Child). build (record { at = top.at; name = top.name; attributes = top.attributes; children = cs }, outer) more) (sym (append-nil top.children))
 all_add (c ∷ cs) top outer more =
-    let behind : List Event = joined (map events (children_of cs)) in
-    ap (build (top, outer)) (append_assoc (events c.0) behind more)
-    ∙ c.1 top outer (behind ++ more)
+    let after : List Event = joined (map events (children_of cs)) in
+    ap (build (top, outer)) (append_assoc (events c.0) after more)
+    ∙ c.1 top outer (after ++ more)
     ∙ all_add cs (with_children top (c.0 ∷ [])) outer more
     ∙ ap (λ (cs : List Child). build (record { at = top.at; name = top.name; attributes = top.attributes; children = cs }, outer) more) (append_assoc top.children (c.0 ∷ []) (children_of cs))
 

@@ -207,17 +207,17 @@ abbrev EndsRest : (ℕ → Bool) → ℕ → List ℕ → Bool → Bool → Type
 EndsRest p c cs b d = IsTrue (list_all p (if b then 0xA ∷ line_ends_after true cs else if d then line_ends_after false cs else c ∷ line_ends_after false cs))
 
 -- what line ends are read as tells nothing of other characters
-ends_all : (p : ℕ → Bool) → p 0xD ≡ true → p 0xA ≡ true → (behind : Bool) (text : List ℕ) → IsTrue (list_all p (line_ends_after behind text)) → IsTrue (list_all p text)
-ends_all p r l behind [] h = refl
-ends_all p r l behind (c ∷ cs) h = first (λ after k. ends_all p r l after cs k) (c == 0xD) refl h
+ends_all : (p : ℕ → Bool) → p 0xD ≡ true → p 0xA ≡ true → (after_cr : Bool) (text : List ℕ) → IsTrue (list_all p (line_ends_after after_cr text)) → IsTrue (list_all p text)
+ends_all p r l after_cr [] h = refl
+ends_all p r l after_cr (c ∷ cs) h = first (λ after k. ends_all p r l after cs k) (c == 0xD) refl h
   where
-    second : (more : (after : Bool) → IsTrue (list_all p (line_ends_after after cs)) → IsTrue (list_all p cs)) (d : Bool) → (behind && c == 0xA) ≡ d → EndsRest p c cs false d → IsTrue (list_all p (c ∷ cs))
-    second more true e k = all_cons p c cs (ap p (eqb-true c 0xA (both behind (c == 0xA) e).1) ∙ l) (more false k)
+    second : (more : (after : Bool) → IsTrue (list_all p (line_ends_after after cs)) → IsTrue (list_all p cs)) (d : Bool) → (after_cr && c == 0xA) ≡ d → EndsRest p c cs false d → IsTrue (list_all p (c ∷ cs))
+    second more true e k = all_cons p c cs (ap p (eqb-true c 0xA (both after_cr (c == 0xA) e).1) ∙ l) (more false k)
     second more false e k = all_cons p c cs (all_head p c (line_ends_after false cs) k) (more false (all_tail p c (line_ends_after false cs) k))
 
-    first : (more : (after : Bool) → IsTrue (list_all p (line_ends_after after cs)) → IsTrue (list_all p cs)) (b : Bool) → (c == 0xD) ≡ b → EndsRest p c cs b (behind && c == 0xA) → IsTrue (list_all p (c ∷ cs))
+    first : (more : (after : Bool) → IsTrue (list_all p (line_ends_after after cs)) → IsTrue (list_all p cs)) (b : Bool) → (c == 0xD) ≡ b → EndsRest p c cs b (after_cr && c == 0xA) → IsTrue (list_all p (c ∷ cs))
     first more true e k = all_cons p c cs (ap p (eqb-true c 0xD e) ∙ r) (more true (all_tail p 0xA (line_ends_after true cs) k))
-    first more false e k = second more (behind && c == 0xA) refl k
+    first more false e k = second more (after_cr && c == 0xA) refl k
 
 quoted_row : (q r : ℕ) (i j c d : List ℕ) → IsTrue (list_all (is_not q) i) → IsTrue (list_all (is_not r) j) → quoted q i ++ c ≡ quoted r j ++ d → (q ≡ r) × (i ≡ j) × (c ≡ d)
 quoted_row q r i j c d hi hj e =

@@ -20,9 +20,9 @@ abbrev pub width : List ℕ → ℕ
 width text = length (encode_utf8_all text)
 
 -- one U+FEFF at the start is skipped, and counts in places
-abbrev pub behind_mark : List ℕ → List ℕ
-behind_mark [] = []
-behind_mark (c ∷ cs) = if c == 0xFEFF then cs else c ∷ cs
+abbrev pub after_mark : List ℕ → List ℕ
+after_mark [] = []
+after_mark (c ∷ cs) = if c == 0xFEFF then cs else c ∷ cs
 
 abbrev pub mark_width : List ℕ → ℕ
 mark_width [] = 0
@@ -42,7 +42,7 @@ nest_after s (p ∷ ps) = nest_after (enter s p.1) ps
 
 -- the pieces begin a text, and leave this of its characters
 abbrev pub Begins : List ℕ → List Placed → List ℕ → Type 0
-Begins text pieces left = Reads start (mark_width (chars text)) pieces (behind_mark (chars text)) left
+Begins text pieces left = Reads start (mark_width (chars text)) pieces (after_mark (chars text)) left
 
 -- The text's document: its root, and its declarations of prefixes. The text is UTF-8 and consists of whole pieces that
 -- break no rule and leave no element open.

@@ -6,4 +6,3 @@ pub mod Trees
 pub mod Documents
 pub mod Sound
 pub mod Heights
-pub mod Rows

@@ -12,7 +12,8 @@ use Rattle.xml_grammar.specs.declared.tags.Tag.{Tag}
 use Rattle.xml_grammar.specs.declared.tokens.Mode.{Mode}
 use Rattle.xml_grammar.specs.declared.tokens.Mode.TheVariants as modes
 use Rattle.xml_grammar.specs.Pieces.{Piece, Declaration, Instruction, Comment, Cdata, Start, End, Reference, LineEnd, Character}
-use Rattle.xml_grammar.specs.Scopes.{Binding, predeclared, bindings_of, plain_attributes, is_unbound, is_misbound, expanded_attributes, same_qname, same_name}
+use Rattle.xmp_values.specs.Names.{same_name}
+use Rattle.xml_grammar.specs.Scopes.{Binding, predeclared, bindings_of, plain_attributes, is_unbound, is_misbound, expanded_attributes, same_qname}
 
 -- an open element: its name as the tag spells it, and the declarations in force in it, the innermost first
 pub record Level : Type 0 where

@@ -83,6 +83,3 @@ is_misbound b = is_misbound_to b.prefix b.space
 
 abbrev pub same_qname : QName → QName → Bool
 same_qname m n = same_prefix m.prefix n.prefix && bytes_eq m.local n.local
-
-abbrev pub same_name : Name → Name → Bool
-same_name m n = bytes_eq m.space n.space && bytes_eq m.local n.local

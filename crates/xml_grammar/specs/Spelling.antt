@@ -100,10 +100,10 @@ SpellsReference c text = SpellsEntity c text ⊎ SpellsNumber 10 (codes "&#") c 
 
 -- Section 2.11: CR LF, and CR that no LF follows, are read as one LF. The first argument says whether CR was read last.
 abbrev pub line_ends_after : Bool → List ℕ → List ℕ
-line_ends_after behind [] = []
-line_ends_after behind (c ∷ cs) =
+line_ends_after after_cr [] = []
+line_ends_after after_cr (c ∷ cs) =
     if c == 0xD then 0xA ∷ line_ends_after true cs
-    else if behind && c == 0xA then line_ends_after false cs
+    else if after_cr && c == 0xA then line_ends_after false cs
     else c ∷ line_ends_after false cs
 
 abbrev pub line_ends : List ℕ → List ℕ

@@ -17,41 +17,41 @@ regroup : (front : List RawAttribute) (a : RawAttribute) (read : Option (List Ra
 regroup front a (Some x) = ap (λ (others : List RawAttribute). Some (others, x.1)) (simp append_assoc)
 regroup front a None = refl
 
-pub goes_on : (front : List RawAttribute) (count i : ℕ) (cs behind : List ℕ) (a : RawAttribute) (next : List ℕ) (total : Option (List RawAttribute × List ℕ)) → i < count
-    → behind ≡ past is_blank cs → closes behind ≡ false → eqb (width behind) (width cs) ≡ false → attribute_at behind ≡ Some (a, next)
+pub goes_on : (front : List RawAttribute) (count i : ℕ) (cs after : List ℕ) (a : RawAttribute) (next : List ℕ) (total : Option (List RawAttribute × List ℕ)) → i < count
+    → after ≡ past is_blank cs → closes after ≡ false → eqb (width after) (width cs) ≡ false → attribute_at after ≡ Some (a, next)
     → with_attributes front (attributes_at (count - i) cs) ≡ total → with_attributes (front ++ a ∷ []) (attributes_at (count - (i + 1)) next) ≡ total
 unfolding attributes_at
-goes_on front count i cs behind a next total lt is unclosed moved h so_far =
+goes_on front count i cs after a next total lt is unclosed moved h so_far =
     let k : count - i ≡ suc (count - (i + 1)) = omega arith in
     let one : with_attributes front (attributes_at (count - i) cs) ≡ with_attributes (front ++ a ∷ []) (attributes_at (count - (i + 1)) next) = rw (k, ← is, unclosed, moved, h) (regroup front a (attributes_at (count - (i + 1)) next)) in
     sym one ∙ so_far
 
-pub misses_one : (e : Miss) (front : List RawAttribute) (count i : ℕ) (cs behind : List ℕ) (total : Option (List RawAttribute × List ℕ)) → i < count
-    → behind ≡ past is_blank cs → closes behind ≡ false → eqb (width behind) (width cs) ≡ false → Misses e (attribute_at behind)
+pub misses_one : (e : Miss) (front : List RawAttribute) (count i : ℕ) (cs after : List ℕ) (total : Option (List RawAttribute × List ℕ)) → i < count
+    → after ≡ past is_blank cs → closes after ≡ false → eqb (width after) (width cs) ≡ false → Misses e (attribute_at after)
     → with_attributes front (attributes_at (count - i) cs) ≡ total → Misses e total
 unfolding attributes_at
-misses_one misses.Memory front count i cs behind total lt is unclosed moved h so_far = tt
-misses_one misses.Nothing front count i cs behind total lt is unclosed moved h so_far =
+misses_one misses.Memory front count i cs after total lt is unclosed moved h so_far = tt
+misses_one misses.Nothing front count i cs after total lt is unclosed moved h so_far =
     let k : count - i ≡ suc (count - (i + 1)) = omega arith in
     let one : with_attributes front (attributes_at (count - i) cs) ≡ None = rw (k, ← is, unclosed, moved, h) refl in
     sym so_far ∙ one
 
-pub stuck : (front : List RawAttribute) (count i : ℕ) (cs behind : List ℕ) (total : Option (List RawAttribute × List ℕ)) → i < count
-    → behind ≡ past is_blank cs → closes behind ≡ false → eqb (width behind) (width cs) ≡ true
+pub stuck : (front : List RawAttribute) (count i : ℕ) (cs after : List ℕ) (total : Option (List RawAttribute × List ℕ)) → i < count
+    → after ≡ past is_blank cs → closes after ≡ false → eqb (width after) (width cs) ≡ true
     → with_attributes front (attributes_at (count - i) cs) ≡ total → total ≡ None
 unfolding attributes_at
-stuck front count i cs behind total lt is unclosed moved so_far =
+stuck front count i cs after total lt is unclosed moved so_far =
     let k : count - i ≡ suc (count - (i + 1)) = omega arith in
     let one : with_attributes front (attributes_at (count - i) cs) ≡ None = rw (k, ← is, unclosed, moved) refl in
     sym so_far ∙ one
 
-pub is_done : (front : List RawAttribute) (count i : ℕ) (cs behind : List ℕ) (total : Option (List RawAttribute × List ℕ)) → i < count
-    → behind ≡ past is_blank cs → closes behind ≡ true
-    → with_attributes front (attributes_at (count - i) cs) ≡ total → total ≡ Some (front, behind)
+pub is_done : (front : List RawAttribute) (count i : ℕ) (cs after : List ℕ) (total : Option (List RawAttribute × List ℕ)) → i < count
+    → after ≡ past is_blank cs → closes after ≡ true
+    → with_attributes front (attributes_at (count - i) cs) ≡ total → total ≡ Some (front, after)
 unfolding attributes_at
-is_done front count i cs behind total lt is close so_far =
+is_done front count i cs after total lt is close so_far =
     let k : count - i ≡ suc (count - (i + 1)) = omega arith in
-    let one : with_attributes front (attributes_at (count - i) cs) ≡ Some (front, behind) = rw (k, ← is, close) (ap (λ (others : List RawAttribute). Some (others, behind)) (append-nil front)) in
+    let one : with_attributes front (attributes_at (count - i) cs) ≡ Some (front, after) = rw (k, ← is, close) (ap (λ (others : List RawAttribute). Some (others, after)) (append-nil front)) in
     sym so_far ∙ one
 
 pub ran_out : (front : List RawAttribute) (count i : ℕ) (cs : List ℕ) (total : Option (List RawAttribute × List ℕ)) → count ≤ i

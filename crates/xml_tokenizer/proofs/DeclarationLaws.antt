@@ -200,7 +200,7 @@ standalone_takes cs rest e =
     by_word word text (inl e) h = inr (inl (subst (λ (w : List ℕ). SpellsGiven (codes "standalone") w text) e h))
     by_word word text (inr e) h = inr (inr (subst (λ (w : List ℕ). SpellsGiven (codes "standalone") w text) e h))
 
-given_standalone : (word text rest : List ℕ) → ((behind : List ℕ) → answer_at (word ++ behind) ≡ Some behind) → SpellsGiven (codes "standalone") word text → standalone_at (text ++ rest) ≡ Some rest
+given_standalone : (word text rest : List ℕ) → ((later : List ℕ) → answer_at (word ++ later) ≡ Some later) → SpellsGiven (codes "standalone") word text → standalone_at (text ++ rest) ≡ Some rest
 unfolding standalone_at
 given_standalone word text rest answer (gap, equals, quote, hg, he, hq, at) =
     let split : text ++ rest ≡ gap ++ (codes "standalone" ++ (equals ++ (quote ∷ (word ++ (quote ∷ rest))))) = ap (λ (t : List ℕ). t ++ rest) at ∙ given_shape gap (codes "standalone") equals word rest quote in
@@ -211,11 +211,11 @@ given_standalone word text rest answer (gap, equals, quote, hg, he, hq, at) =
 standalone_again : (text gap rest : List ℕ) → IsStandalone text → AreBlank gap → or_here (text ++ (gap ++ (codes "?>" ++ rest))) (standalone_at (text ++ (gap ++ (codes "?>" ++ rest)))) ≡ gap ++ (codes "?>" ++ rest)
 unfolding standalone_at is_blank
 standalone_again text gap rest (inl none) h =
-    let behind : List ℕ = gap ++ (codes "?>" ++ rest) in
+    let later : List ℕ = gap ++ (codes "?>" ++ rest) in
     let g = given_other (codes "standalone") gap (codes "?>" ++ rest) h refl refl in
-    ap (λ (t : List ℕ). or_here (t ++ behind) (standalone_at (t ++ behind))) none ∙ rw g refl
-standalone_again text gap rest (inr (inl given)) h = rw (given_standalone (codes "yes") text (gap ++ (codes "?>" ++ rest)) (λ behind. refl) given) refl
-standalone_again text gap rest (inr (inr given)) h = rw (given_standalone (codes "no") text (gap ++ (codes "?>" ++ rest)) (λ behind. refl) given) refl
+    ap (λ (t : List ℕ). or_here (t ++ later) (standalone_at (t ++ later))) none ∙ rw g refl
+standalone_again text gap rest (inr (inl given)) h = rw (given_standalone (codes "yes") text (gap ++ (codes "?>" ++ rest)) (λ later. refl) given) refl
+standalone_again text gap rest (inr (inr given)) h = rw (given_standalone (codes "no") text (gap ++ (codes "?>" ++ rest)) (λ later. refl) given) refl
 
 -- what stands after the version begins with no `encoding`
 no_encoding : (alone gap rest : List ℕ) → IsStandalone alone → AreBlank gap → encoding_at (alone ++ (gap ++ (codes "?>" ++ rest))) ≡ None

@@ -27,30 +27,30 @@ not_begun word cs h (rest, e) =
     let k : begins word cs ≡ true = ap (begins word) e ∙ ap is_some (after_again word rest) in
     cc
 
-behind_less : (word cs : List ℕ) → BeginsWith word cs → BeginsWith (60 ∷ word) (60 ∷ cs)
-behind_less word cs (rest, e) = (rest, ap (λ (t : List ℕ). 60 ∷ t) e)
+after_less : (word cs : List ℕ) → BeginsWith word cs → BeginsWith (60 ∷ word) (60 ∷ cs)
+after_less word cs (rest, e) = (rest, ap (λ (t : List ℕ). 60 ∷ t) e)
 
-less_behind : (word cs : List ℕ) → BeginsWith (60 ∷ word) (60 ∷ cs) → BeginsWith word cs
-less_behind word cs (rest, e) = (rest, cc)
+less_after : (word cs : List ℕ) → BeginsWith (60 ∷ word) (60 ∷ cs) → BeginsWith word cs
+less_after word cs (rest, e) = (rest, cc)
 
 markup_fails : (s : Nest) (cs : List ℕ) → (HasPiece (mode_of s) (60 ∷ cs) → ⊥) → Holds s (60 ∷ cs) (markup_rule cs)
 unfolding markup_rule
 markup_fails s cs none = by_doctype (begins (codes "!DOCTYPE") cs) refl
   where
     by_cdata : (a b c d : Bool) → begins (codes "!DOCTYPE") cs ≡ false → begins (codes "!--") cs ≡ false → begins (codes "?") cs ≡ false → begins (codes "![CDATA[") cs ≡ d → Holds s (60 ∷ cs) (cond d BadCdata BadTag)
-    by_cdata a b c true x y z h = (behind_less (codes "![CDATA[") cs (begun (codes "![CDATA[") cs h), none)
-    by_cdata a b c false x y z h = (((cs, refl), none), (λ k. not_begun (codes "!DOCTYPE") cs x (less_behind (codes "!DOCTYPE") cs k)), (λ k. not_begun (codes "!--") cs y (less_behind (codes "!--") cs k)), (λ k. not_begun (codes "?") cs z (less_behind (codes "?") cs k)), (λ k. not_begun (codes "![CDATA[") cs h (less_behind (codes "![CDATA[") cs k)))
+    by_cdata a b c true x y z h = (after_less (codes "![CDATA[") cs (begun (codes "![CDATA[") cs h), none)
+    by_cdata a b c false x y z h = (((cs, refl), none), (λ k. not_begun (codes "!DOCTYPE") cs x (less_after (codes "!DOCTYPE") cs k)), (λ k. not_begun (codes "!--") cs y (less_after (codes "!--") cs k)), (λ k. not_begun (codes "?") cs z (less_after (codes "?") cs k)), (λ k. not_begun (codes "![CDATA[") cs h (less_after (codes "![CDATA[") cs k)))
 
     by_question : (c : Bool) → begins (codes "!DOCTYPE") cs ≡ false → begins (codes "!--") cs ≡ false → begins (codes "?") cs ≡ c → Holds s (60 ∷ cs) (cond c BadInstruction (cond (begins (codes "![CDATA[") cs) BadCdata BadTag))
-    by_question true x y h = (behind_less (codes "?") cs (begun (codes "?") cs h), none)
+    by_question true x y h = (after_less (codes "?") cs (begun (codes "?") cs h), none)
     by_question false x y h = by_cdata false false false (begins (codes "![CDATA[") cs) x y h refl
 
     by_comment : (b : Bool) → begins (codes "!DOCTYPE") cs ≡ false → begins (codes "!--") cs ≡ b → Holds s (60 ∷ cs) (cond b BadComment (cond (begins (codes "?") cs) BadInstruction (cond (begins (codes "![CDATA[") cs) BadCdata BadTag)))
-    by_comment true x h = (behind_less (codes "!--") cs (begun (codes "!--") cs h), none)
+    by_comment true x h = (after_less (codes "!--") cs (begun (codes "!--") cs h), none)
     by_comment false x h = by_question (begins (codes "?") cs) x h refl
 
     by_doctype : (a : Bool) → begins (codes "!DOCTYPE") cs ≡ a → Holds s (60 ∷ cs) (cond a Doctype (cond (begins (codes "!--") cs) BadComment (cond (begins (codes "?") cs) BadInstruction (cond (begins (codes "![CDATA[") cs) BadCdata BadTag))))
-    by_doctype true h = behind_less (codes "!DOCTYPE") cs (begun (codes "!DOCTYPE") cs h)
+    by_doctype true h = after_less (codes "!DOCTYPE") cs (begun (codes "!DOCTYPE") cs h)
     by_doctype false h = by_comment (begins (codes "!--") cs) h refl
 
 run_fails : (s : Nest) (c : ℕ) (cs : List ℕ) → eqb c 60 ≡ false → eqb c 38 ≡ false → eqb c 13 ≡ false → run_at (is_inside (mode_of s)) (c ∷ cs) ≡ None → Holds s (c ∷ cs) BadChar

@@ -16,8 +16,8 @@ use Rattle.xml_tokenizer.proofs.SectionLaws.{Ends, up_to_again, up_to_takes}
 use Rattle.xml_tokenizer.proofs.Words.{word_bytes, word_found, after_takes}
 
 -- a word that stands after a front occurs at the front's length
-occurs_behind : (text word a b : List ℕ) → text ≡ a ++ (word ++ b) → OccursAt text word (length a)
-occurs_behind text word a b e =
+occurs_after : (text word a b : List ℕ) → text ≡ a ++ (word ++ b) → OccursAt text word (length a)
+occurs_after text word a b e =
     let long = ap length e in
     let fits : length a + length word ≤ length text = omega (arith, long, length-append a (word ++ b), length-append word b) in
     let dropped : drop (length a) text ≡ word ++ b = ap (drop (length a)) e ∙ drop_at a (word ++ b) (length a) refl in
@@ -27,7 +27,7 @@ occurs_behind text word a b e =
 occurs_at_chars : (text word a b : List ℕ) → IsUtf8 text → is_ascii word ≡ true → chars text ≡ a ++ (word ++ b) → OccursAt text word (length (encode_utf8_all a))
 occurs_at_chars text word a b u ascii e =
     let spelled : encode_utf8_all (word ++ b) ≡ word ++ encode_utf8_all b = encodes-append word b ∙ ap (λ (t : List ℕ). t ++ encode_utf8_all b) (encodes-IsAscii word (word_bytes word ascii)) in
-    occurs_behind text word (encode_utf8_all a) (encode_utf8_all b) (sym (encodes-chars text u) ∙ ap encode_utf8_all e ∙ encodes-append a (word ++ b) ∙ ap (λ (t : List ℕ). encode_utf8_all a ++ t) spelled)
+    occurs_after text word (encode_utf8_all a) (encode_utf8_all b) (sym (encodes-chars text u) ∙ ap encode_utf8_all e ∙ encodes-append a (word ++ b) ∙ ap (λ (t : List ℕ). encode_utf8_all a ++ t) spelled)
 
 -- what is read up to a word shows a place of the word
 record Read (word text : List ℕ) (x : List ℕ × List ℕ) : Type 0 where
@@ -76,8 +76,8 @@ pub sought_stuck : (word text inside stop : List ℕ) (high : ℕ) → IsUtf8 te
 sought_stuck word text inside stop high u v ascii some e first lacks = none_by (up_to word (chars text)) (λ x h.
     let r = read_of word text x u ascii some h in
     let long : length (encode_utf8_all (chars inside)) ≡ length inside = ap length (encodes-chars inside v) in
-    let behind : length inside ≤ length (encode_utf8_all x.0) = not_before (ltb (length (encode_utf8_all x.0)) (length inside)) refl r.occurs in
-    let all : AreChars (chars inside) = front_of_front x.0 (word ++ x.1) (chars inside) (chars stop) (sym (ap chars e ∙ chars-append inside stop v) ∙ r.parts) (omega (arith, long, behind)) r.inside in
+    let later : length inside ≤ length (encode_utf8_all x.0) = not_before (ltb (length (encode_utf8_all x.0)) (length inside)) refl r.occurs in
+    let all : AreChars (chars inside) = front_of_front x.0 (word ++ x.1) (chars inside) (chars stop) (sym (ap chars e ∙ chars-append inside stop v) ∙ r.parts) (omega (arith, long, later)) r.inside in
     false≢true (sym lacks ∙ all))
   where
     not_before : {n : ℕ} (b : Bool) → ltb n (length inside) ≡ b → OccursAt text word n → length inside ≤ n
@@ -112,7 +112,7 @@ occurs_boundary text word at ascii some h =
 pub record Cut (word text inside stop : List ℕ) : Type 0 where
   pub parts : text ≡ inside ++ stop
   pub utf8 : IsUtf8 inside
-  pub behind : IsUtf8 stop
+  pub later : IsUtf8 stop
   pub first : NoneBefore (OccursAt text word) 0 (length text + 1) (length inside)
   pub occurs : OccursAt text word (length inside)
 
@@ -124,7 +124,7 @@ cut_of word text inside stop at u ascii some first occurs e f =
     record {
       parts = sym (take-append-drop at text) ∙ ap (λ (t : List ℕ). t ++ drop at text) (sym e) ∙ ap (λ (t : List ℕ). inside ++ t) (sym f);
       utf8 = subst IsUtf8 (sym e) (IsUtf8-take text at u boundary);
-      behind = subst IsUtf8 (sym f) (IsUtf8-drop text at u boundary);
+      later = subst IsUtf8 (sym f) (IsUtf8-drop text at u boundary);
       first = subst (NoneBefore (OccursAt text word) 0 (length text + 1)) long first;
       occurs = subst (OccursAt text word) long occurs;
     }

@@ -20,4 +20,5 @@ pub mod Found
 pub mod Sure
 pub mod AsciiBytes
 pub mod RunEnds
+pub mod RunPieces
 pub mod PlainLaws

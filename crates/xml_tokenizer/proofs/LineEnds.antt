@@ -62,8 +62,8 @@ first_line text at u first found =
     let byte : slice_index text at ≡ 13 = eqb-true (slice_index text at) 13 found in
     let low : slice_index text at < 128 = return_low (slice_index text at) found in
     let rest : List ℕ = chars (drop (at + 1) text) in
-    let behind : chars (drop at text) ≡ 13 ∷ rest = char_at text at u first.high low ∙ ap (λ (b : ℕ). b ∷ rest) byte in
-    let parts : chars text ≡ chars (take at text) ++ 13 ∷ rest = cut.parts ∙ ap (λ (t : List ℕ). chars (take at text) ++ t) behind in
+    let after : chars (drop at text) ≡ 13 ∷ rest = char_at text at u first.high low ∙ ap (λ (b : ℕ). b ∷ rest) byte in
+    let parts : chars text ≡ chars (take at text) ++ 13 ∷ rest = cut.parts ∙ ap (λ (t : List ℕ). chars (take at text) ++ t) after in
     let none = none_spelled (is_byte 13) return_low (chars (take at text)) (ap (list_all (is_not 13)) (encodes-chars (take at text) cut.front) ∙ cut.lacks) in
     record {
       front = cut.boundary;

@@ -48,10 +48,10 @@ qname_takes cs x e =
     by_colon : (name rest : List ℕ) (o : Option (List ℕ)) (text : List ℕ) → SpellsName name text → after (codes ":") rest ≡ o → cs ≡ text ++ rest → local_at name rest o ≡ Some x → (t : List ℕ) × SpellsQName x.0 t × (cs ≡ t ++ x.1)
     by_colon name rest None text spelled found at h =
         subst (λ (y : QName × List ℕ). (t : List ℕ) × SpellsQName y.0 t × (cs ≡ t ++ y.1)) (some_is (record { prefix = None; local = name }, rest) x h) (text, spelled, at)
-    by_colon name rest (Some behind) text spelled found at h =
-        let b = bind_some (name_at behind) (λ y. Some (record { prefix = Some name; local = y.0 }, y.1)) x h in
-        let m = name_takes behind b.0 b.1 in
-        let colon : rest ≡ codes ":" ++ behind = after_takes (codes ":") rest behind found in
+    by_colon name rest (Some later) text spelled found at h =
+        let b = bind_some (name_at later) (λ y. Some (record { prefix = Some name; local = y.0 }, y.1)) x h in
+        let m = name_takes later b.0 b.1 in
+        let colon : rest ≡ codes ":" ++ later = after_takes (codes ":") rest later found in
         let all : cs ≡ (text ++ codes ":" ++ m.0) ++ b.0.1 = at ∙ ap (λ (t : List ℕ). text ++ t) (colon ∙ ap (λ (t : List ℕ). codes ":" ++ t) m.2) ∙ regroup text (codes ":") m.0 b.0.1 in
         subst (λ (y : QName × List ℕ). (t : List ℕ) × SpellsQName y.0 t × (cs ≡ t ++ y.1)) (some_is (record { prefix = Some name; local = b.0.0 }, b.0.1) x b.2) (text ++ codes ":" ++ m.0, (text, m.0, spelled, m.1, refl), all)
 

@@ -13,7 +13,7 @@ use Rattle.xml_tokenizer.specs.Runs.{taken, past, after, begins, up_to, found_or
 use Rattle.xml_tokenizer.specs.Tokens.{starts_plain, plain_front, plain_back}
 use Rattle.xml_tokenizer.proofs.Steps.{some_is}
 use Rattle.xml_tokenizer.proofs.Sought.{taken_past}
-use Rattle.xml_tokenizer.proofs.Sure.{scalars_behind, scalars_before}
+use Rattle.xml_tokenizer.proofs.Sure.{scalars_after, scalars_before}
 
 pub plain_parts : (inside : Bool) (cs : List ℕ) → cs ≡ plain_front inside cs ++ plain_back inside cs
 plain_parts inside [] = refl
@@ -150,7 +150,7 @@ pub between : (text front a b : List ℕ) → IsUtf8 text → IsUtf8 front → c
 between text front a b u v e f =
     let spelled : front ≡ encode_utf8_all a = sym (encodes-chars front v) ∙ ap encode_utf8_all f in
     let at : text ≡ front ++ encode_utf8_all b = sym (encodes-chars text u) ∙ ap encode_utf8_all e ∙ encodes-append a b ∙ ap (λ (t : List ℕ). t ++ encode_utf8_all b) (sym spelled) in
-    let scalars : all_scalars b ≡ true = scalars_behind a b (ap all_scalars (sym e) ∙ scalars-chars text u) in
+    let scalars : all_scalars b ≡ true = scalars_after a b (ap all_scalars (sym e) ∙ scalars-chars text u) in
     record {
       boundary = IsCharBoundary-at_seam text front (encode_utf8_all b) at (b, (scalars, refl));
       front = ap (take (length front)) at ∙ take_at front (encode_utf8_all b) (length front) refl ∙ spelled;

@@ -10,7 +10,7 @@ use Rattle.xml_grammar.specs.Spelling.{is_digit, number_from, Entity, Lt, Gt, Am
 use Rattle.xml_grammar.proofs.Splits.{both}
 use Rattle.xml_tokenizer.specs.References.{named_at, entity_at, no_char, capped_from, starts_digit, number_at, numeric_at, marked_at, reference_at}
 use Rattle.xml_tokenizer.specs.Runs.{taken, past, after}
-use Rattle.xml_tokenizer.specs.Steps.{or_else}
+use Rattle.std.specs.Option.{option_or}
 use Rattle.xml_tokenizer.proofs.Sought.{taken_past}
 use Rattle.xml_tokenizer.proofs.Steps.{bind_some, some_is, passed, either_gave, taken_all, run_again}
 use Rattle.xml_tokenizer.proofs.Words.{after_takes}
@@ -37,15 +37,15 @@ entity_takes cs x e = first (either_gave _ _ x e)
     fourth (inl h) = let k = named_takes (codes "apos;") 0x27 cs x h in (Apos, k.0, k.1)
     fourth (inr h) = fifth h.1
 
-    third : (r : Option (ℕ × List ℕ)) (s : Option (ℕ × List ℕ)) → (s ≡ or_else (named_at (codes "apos;") 0x27 cs) (named_at (codes "quot;") 0x22 cs)) → (r ≡ named_at (codes "amp;") 0x26 cs) → (r ≡ Some x) ⊎ ((r ≡ None) × (s ≡ Some x)) → TakesEntity cs x
+    third : (r : Option (ℕ × List ℕ)) (s : Option (ℕ × List ℕ)) → (s ≡ option_or (named_at (codes "apos;") 0x27 cs) (named_at (codes "quot;") 0x22 cs)) → (r ≡ named_at (codes "amp;") 0x26 cs) → (r ≡ Some x) ⊎ ((r ≡ None) × (s ≡ Some x)) → TakesEntity cs x
     third r s es er (inl h) = let k = named_takes (codes "amp;") 0x26 cs x (sym er ∙ h) in (Amp, k.0, k.1)
     third r s es er (inr h) = fourth (either_gave _ _ x (sym es ∙ h.1))
 
-    second : (r : Option (ℕ × List ℕ)) (s : Option (ℕ × List ℕ)) → (s ≡ or_else (named_at (codes "amp;") 0x26 cs) (or_else (named_at (codes "apos;") 0x27 cs) (named_at (codes "quot;") 0x22 cs))) → (r ≡ named_at (codes "gt;") 0x3E cs) → (r ≡ Some x) ⊎ ((r ≡ None) × (s ≡ Some x)) → TakesEntity cs x
+    second : (r : Option (ℕ × List ℕ)) (s : Option (ℕ × List ℕ)) → (s ≡ option_or (named_at (codes "amp;") 0x26 cs) (option_or (named_at (codes "apos;") 0x27 cs) (named_at (codes "quot;") 0x22 cs))) → (r ≡ named_at (codes "gt;") 0x3E cs) → (r ≡ Some x) ⊎ ((r ≡ None) × (s ≡ Some x)) → TakesEntity cs x
     second r s es er (inl h) = let k = named_takes (codes "gt;") 0x3E cs x (sym er ∙ h) in (Gt, k.0, k.1)
     second r s es er (inr h) = third _ _ refl refl (either_gave _ _ x (sym es ∙ h.1))
 
-    first : (named_at (codes "lt;") 0x3C cs ≡ Some x) ⊎ ((named_at (codes "lt;") 0x3C cs ≡ None) × (or_else (named_at (codes "gt;") 0x3E cs) (or_else (named_at (codes "amp;") 0x26 cs) (or_else (named_at (codes "apos;") 0x27 cs) (named_at (codes "quot;") 0x22 cs))) ≡ Some x)) → TakesEntity cs x
+    first : (named_at (codes "lt;") 0x3C cs ≡ Some x) ⊎ ((named_at (codes "lt;") 0x3C cs ≡ None) × (option_or (named_at (codes "gt;") 0x3E cs) (option_or (named_at (codes "amp;") 0x26 cs) (option_or (named_at (codes "apos;") 0x27 cs) (named_at (codes "quot;") 0x22 cs))) ≡ Some x)) → TakesEntity cs x
     first (inl h) = let k = named_takes (codes "lt;") 0x3C cs x h in (Lt, k.0, k.1)
     first (inr h) = second _ _ refl refl (either_gave _ _ x h.1)
 
@@ -143,9 +143,9 @@ unfolding reference_at
 reference_takes cs x e = by_mark (after (codes "#") cs) refl e
   where
     by_x : (rest : List ℕ) (o : Option (List ℕ)) → cs ≡ codes "#" ++ rest → after (codes "x") rest ≡ o → numeric_at rest o ≡ Some x → TakesReference cs x
-    by_x rest (Some behind) at found h =
-        let n = number_takes 16 steps_sixteen behind x h in
-        let all : cs ≡ (codes "#x" ++ n.0 ++ codes ";") ++ x.1 = at ∙ ap (λ (t : List ℕ). codes "#" ++ t) (after_takes (codes "x") rest behind found ∙ ap (λ (t : List ℕ). codes "x" ++ t) n.5) in
+    by_x rest (Some later) at found h =
+        let n = number_takes 16 steps_sixteen later x h in
+        let all : cs ≡ (codes "#x" ++ n.0 ++ codes ";") ++ x.1 = at ∙ ap (λ (t : List ℕ). codes "#" ++ t) (after_takes (codes "x") rest later found ∙ ap (λ (t : List ℕ). codes "x" ++ t) n.5) in
         (codes "#x" ++ n.0 ++ codes ";", inr (inr (n.0, n.1, n.2, n.3, n.4, refl)), all)
     by_x rest None at found h =
         let n = number_takes 10 steps_ten rest x h in

@@ -19,16 +19,16 @@ pub record IsRun (p : ℕ → Bool) (text rest : List ℕ) : Type 0 where
   pub parts : text ≡ encode_utf8_all (taken p (chars text)) ++ rest
   pub same : chars rest ≡ past p (chars text)
 
-pub went_more : (p : ℕ → Bool) (text rest behind : List ℕ) (c : ℕ) → Went p text rest → rest ≡ encode_utf8 c ++ behind → chars rest ≡ c ∷ chars behind → p c ≡ true → Went p text behind
-went_more p text rest behind c w e h yes_ =
+pub went_more : (p : ℕ → Bool) (text rest after : List ℕ) (c : ℕ) → Went p text rest → rest ≡ encode_utf8 c ++ after → chars rest ≡ c ∷ chars after → p c ≡ true → Went p text after
+went_more p text rest after c w e h yes_ =
     let one : encode_utf8_all (c ∷ []) ≡ encode_utf8 c = append-nil (encode_utf8 c) in
-    let t : taken p (chars rest) ≡ c ∷ taken p (chars behind) = rw (h, yes_) refl in
-    let s : past p (chars rest) ≡ past p (chars behind) = rw (h, yes_) refl in
-    let joined : encode_utf8_all w.front ++ (encode_utf8 c ++ behind) ≡ encode_utf8_all (w.front ++ c ∷ []) ++ behind = sym (ap (λ (x : List ℕ). x ++ behind) (encodes-append w.front (c ∷ []) ∙ ap (λ (x : List ℕ). encode_utf8_all w.front ++ x) one) ∙ append_assoc (encode_utf8_all w.front) (encode_utf8 c) behind) in
+    let t : taken p (chars rest) ≡ c ∷ taken p (chars after) = rw (h, yes_) refl in
+    let s : past p (chars rest) ≡ past p (chars after) = rw (h, yes_) refl in
+    let joined : encode_utf8_all w.front ++ (encode_utf8 c ++ after) ≡ encode_utf8_all (w.front ++ c ∷ []) ++ after = sym (ap (λ (x : List ℕ). x ++ after) (encodes-append w.front (c ∷ []) ∙ ap (λ (x : List ℕ). encode_utf8_all w.front ++ x) one) ∙ append_assoc (encode_utf8_all w.front) (encode_utf8 c) after) in
     record {
       front = w.front ++ c ∷ [];
       parts = w.parts ∙ ap (λ (x : List ℕ). encode_utf8_all w.front ++ x) e ∙ joined;
-      run = w.run ∙ ap (λ (x : List ℕ). w.front ++ x) t ∙ sym (append_assoc w.front (c ∷ []) (taken p (chars behind)));
+      run = w.run ∙ ap (λ (x : List ℕ). w.front ++ x) t ∙ sym (append_assoc w.front (c ∷ []) (taken p (chars after)));
       same = sym s ∙ w.same;
     }
 
@@ -39,18 +39,18 @@ taken_front p (c ∷ front) rest h =
     let ih = taken_front p front rest k.1 in
     (rw (k.0) (ap (λ (x : List ℕ). c ∷ x) ih.0), rw (k.0) ih.1)
 
-pub went_pass : (p : ℕ → Bool) (text rest behind : List ℕ) → Went p text rest → Passes p rest behind → Went p text behind
-went_pass p text rest behind w (front, all, at, of) =
-    let k = taken_front p front (chars behind) all in
+pub went_pass : (p : ℕ → Bool) (text rest after : List ℕ) → Went p text rest → Passes p rest after → Went p text after
+went_pass p text rest after w (front, all, at, of) =
+    let k = taken_front p front (chars after) all in
     record {
       front = w.front ++ front;
-      parts = w.parts ∙ ap (λ (x : List ℕ). encode_utf8_all w.front ++ x) at ∙ sym (append_assoc (encode_utf8_all w.front) (encode_utf8_all front) behind) ∙ ap (λ (x : List ℕ). x ++ behind) (sym (encodes-append w.front front));
-      run = w.run ∙ ap (λ (x : List ℕ). w.front ++ x) (ap (taken p) of ∙ k.0) ∙ sym (append_assoc w.front front (taken p (chars behind)));
+      parts = w.parts ∙ ap (λ (x : List ℕ). encode_utf8_all w.front ++ x) at ∙ sym (append_assoc (encode_utf8_all w.front) (encode_utf8_all front) after) ∙ ap (λ (x : List ℕ). x ++ after) (sym (encodes-append w.front front));
+      run = w.run ∙ ap (λ (x : List ℕ). w.front ++ x) (ap (taken p) of ∙ k.0) ∙ sym (append_assoc w.front front (taken p (chars after)));
       same = sym k.1 ∙ ap (past p) (sym of) ∙ w.same;
     }
 
-pub went_stop : (p : ℕ → Bool) (text rest behind : List ℕ) (c : ℕ) → Went p text rest → chars rest ≡ c ∷ chars behind → p c ≡ false → IsRun p text rest
-went_stop p text rest behind c w h no_ =
+pub went_stop : (p : ℕ → Bool) (text rest after : List ℕ) (c : ℕ) → Went p text rest → chars rest ≡ c ∷ chars after → p c ≡ false → IsRun p text rest
+went_stop p text rest after c w h no_ =
     let t : taken p (chars rest) ≡ [] = rw (h, no_) refl in
     let s : past p (chars rest) ≡ chars rest = rw (h, no_) refl in
     let all : taken p (chars text) ≡ w.front = w.run ∙ ap (λ (x : List ℕ). w.front ++ x) t ∙ append-nil w.front in

@@ -29,14 +29,14 @@ pub record TakesUpTo (word front : List ℕ) (cs : List ℕ) (x : List ℕ × Li
   pub lacks : Lacks word (x.0 ++ front)
 
 lacks_short : (word text : List ℕ) → length text < length word → Lacks word text
-lacks_short word text short before behind e = omega (arith, ap length e, length-append (before ++ word) behind, length-append before word)
+lacks_short word text short before later e = omega (arith, ap length e, length-append (before ++ word) later, length-append before word)
 
 lacks_more : (word text rest : List ℕ) (c : ℕ) → after word (c ∷ (text ++ rest)) ≡ None → Lacks word text → Lacks word (c ∷ text)
-lacks_more word text rest c none lacks [] behind e =
-    let at : c ∷ (text ++ rest) ≡ word ++ (behind ++ rest) = ap (λ (t : List ℕ). t ++ rest) e ∙ append_assoc word behind rest in
-    let found : after word (c ∷ (text ++ rest)) ≡ Some (behind ++ rest) = ap (after word) at ∙ after_again word (behind ++ rest) in
+lacks_more word text rest c none lacks [] later e =
+    let at : c ∷ (text ++ rest) ≡ word ++ (later ++ rest) = ap (λ (t : List ℕ). t ++ rest) e ∙ append_assoc word later rest in
+    let found : after word (c ∷ (text ++ rest)) ≡ Some (later ++ rest) = ap (after word) at ∙ after_again word (later ++ rest) in
     absurd cc
-lacks_more word text rest c none lacks (b ∷ before) behind e = lacks before behind (tail_same c b text (before ++ word ++ behind) e)
+lacks_more word text rest c none lacks (b ∷ before) later e = lacks before later (tail_same c b text (before ++ word ++ later) e)
 
 found_takes : (word front back : List ℕ) (c : ℕ) (cs : List ℕ) (x : List ℕ × List ℕ) (o : Option (List ℕ)) → word ≡ front ++ back → length front < length word → after word (c ∷ cs) ≡ o
     → found_or c o (up_to word cs) ≡ Some x → ((y : List ℕ × List ℕ) → up_to word cs ≡ Some y → TakesUpTo word front cs y) → TakesUpTo word front (c ∷ cs) x
@@ -81,10 +81,10 @@ two_ends : (m n : ℕ) (inside rest : List ℕ) → m ≢ n → Lacks (m ∷ n �
 two_ends m n inside rest ne lacks a [] y is e = refl
 two_ends m n inside rest ne lacks a (x ∷ []) y is e = absurd (ne (sym (head_same n m y (n ∷ rest) (tail_same m x (n ∷ y) (m ∷ n ∷ rest) e))))
 two_ends m n inside rest ne lacks a (x ∷ z ∷ more) y is e =
-    let behind : List ℕ = more ++ (m ∷ n ∷ rest) in
-    let t : n ∷ y ≡ z ∷ behind = tail_same m x (n ∷ y) (z ∷ behind) e in
-    let hx : m ≡ x = head_same m x (n ∷ y) (z ∷ behind) e in
-    let hz : n ≡ z = head_same n z y behind t in
+    let later : List ℕ = more ++ (m ∷ n ∷ rest) in
+    let t : n ∷ y ≡ z ∷ later = tail_same m x (n ∷ y) (z ∷ later) e in
+    let hx : m ≡ x = head_same m x (n ∷ y) (z ∷ later) e in
+    let hz : n ≡ z = head_same n z y later t in
     absurd (lacks a more (is ∙ ap (λ (t : List ℕ). a ++ t) (cons_same x m (z ∷ more) (n ∷ more) (sym hx) (cons_same z n more more (sym hz) refl)) ∙ sym (append_assoc a (m ∷ n ∷ []) more)))
 
 three_ends : (m n : ℕ) (inside rest : List ℕ) → m ≢ n → Lacks (m ∷ m ∷ n ∷ []) inside → Ends (m ∷ m ∷ n ∷ []) inside rest
@@ -92,12 +92,12 @@ three_ends m n inside rest ne lacks a [] y is e = refl
 three_ends m n inside rest ne lacks a (x ∷ []) y is e = absurd (ne (sym (head_same n m y (n ∷ rest) (tail_same m m (n ∷ y) (m ∷ n ∷ rest) (tail_same m x (m ∷ n ∷ y) (m ∷ m ∷ n ∷ rest) e)))))
 three_ends m n inside rest ne lacks a (x ∷ z ∷ []) y is e = absurd (ne (sym (head_same n m y (m ∷ n ∷ rest) (tail_same m z (n ∷ y) (m ∷ m ∷ n ∷ rest) (tail_same m x (m ∷ n ∷ y) (z ∷ m ∷ m ∷ n ∷ rest) e)))))
 three_ends m n inside rest ne lacks a (x ∷ z ∷ v ∷ more) y is e =
-    let behind : List ℕ = more ++ (m ∷ m ∷ n ∷ rest) in
-    let t : m ∷ n ∷ y ≡ z ∷ v ∷ behind = tail_same m x (m ∷ n ∷ y) (z ∷ v ∷ behind) e in
-    let u : n ∷ y ≡ v ∷ behind = tail_same m z (n ∷ y) (v ∷ behind) t in
-    let hx : m ≡ x = head_same m x (m ∷ n ∷ y) (z ∷ v ∷ behind) e in
-    let hz : m ≡ z = head_same m z (n ∷ y) (v ∷ behind) t in
-    let hv : n ≡ v = head_same n v y behind u in
+    let later : List ℕ = more ++ (m ∷ m ∷ n ∷ rest) in
+    let t : m ∷ n ∷ y ≡ z ∷ v ∷ later = tail_same m x (m ∷ n ∷ y) (z ∷ v ∷ later) e in
+    let u : n ∷ y ≡ v ∷ later = tail_same m z (n ∷ y) (v ∷ later) t in
+    let hx : m ≡ x = head_same m x (m ∷ n ∷ y) (z ∷ v ∷ later) e in
+    let hz : m ≡ z = head_same m z (n ∷ y) (v ∷ later) t in
+    let hv : n ≡ v = head_same n v y later u in
     absurd (lacks a more (is ∙ ap (λ (t : List ℕ). a ++ t) (cons_same x m (z ∷ v ∷ more) (m ∷ n ∷ more) (sym hx) (cons_same z m (v ∷ more) (n ∷ more) (sym hz) (cons_same v n more more (sym hv) refl))) ∙ sym (append_assoc a (m ∷ m ∷ n ∷ []) more)))
 
 twin_ends : (m : ℕ) (inside rest : List ℕ) → Lacks (m ∷ m ∷ []) (inside ++ m ∷ []) → Ends (m ∷ m ∷ []) inside rest
@@ -106,10 +106,10 @@ twin_ends m inside rest lacks a (x ∷ []) y is e =
     let hx : m ≡ x = head_same m x (m ∷ y) (m ∷ m ∷ rest) e in
     absurd (lacks a [] (ap (λ (t : List ℕ). t ++ m ∷ []) is ∙ append_assoc a (x ∷ []) (m ∷ []) ∙ ap (λ (t : List ℕ). a ++ t) (cons_same x m (m ∷ []) (m ∷ []) (sym hx) refl) ∙ sym (append-nil (a ++ m ∷ m ∷ []))))
 twin_ends m inside rest lacks a (x ∷ z ∷ more) y is e =
-    let behind : List ℕ = more ++ (m ∷ m ∷ rest) in
-    let t : m ∷ y ≡ z ∷ behind = tail_same m x (m ∷ y) (z ∷ behind) e in
-    let hx : m ≡ x = head_same m x (m ∷ y) (z ∷ behind) e in
-    let hz : m ≡ z = head_same m z y behind t in
+    let later : List ℕ = more ++ (m ∷ m ∷ rest) in
+    let t : m ∷ y ≡ z ∷ later = tail_same m x (m ∷ y) (z ∷ later) e in
+    let hx : m ≡ x = head_same m x (m ∷ y) (z ∷ later) e in
+    let hz : m ≡ z = head_same m z y later t in
     absurd (lacks a (more ++ m ∷ []) (ap (λ (t : List ℕ). t ++ m ∷ []) is ∙ append_assoc a (x ∷ z ∷ more) (m ∷ [])
     ∙ ap (λ (t : List ℕ). a ++ t) (cons_same x m (z ∷ (more ++ m ∷ [])) (m ∷ (more ++ m ∷ [])) (sym hx) (cons_same z m (more ++ m ∷ []) (more ++ m ∷ []) (sym hz) refl)) ∙ sym (append_assoc a (m ∷ m ∷ []) (more ++ m ∷ []))))
 
@@ -200,7 +200,7 @@ abbrev pub TakesBody : List ℕ → List ℕ → Type 0
 TakesBody cs rest = (inside : List ℕ) × IsInstructionText inside × (cs ≡ inside ++ (codes "?>" ++ rest))
 
 lacks_tail : (c : ℕ) (cs : List ℕ) → Lacks (codes "?>") (c ∷ cs) → Lacks (codes "?>") cs
-lacks_tail c cs h before behind e = h (c ∷ before) behind (ap (λ (t : List ℕ). c ∷ t) e)
+lacks_tail c cs h before later e = h (c ∷ before) later (ap (λ (t : List ℕ). c ∷ t) e)
 
 -- a body that white space begins is one blank and the rest
 body_parts : (inside cs rest : List ℕ) → cs ≡ inside ++ (codes "?>" ++ rest) → starts_blank cs ≡ true → AreChars inside → Lacks (codes "?>") inside → IsInstructionText inside
@@ -211,7 +211,7 @@ body_parts (c ∷ inside) cs rest at s chars lacks =
     inr (c ∷ [], inside, all_cons is_blank c [] blank refl, k.1, lacks_tail c inside lacks, refl)
 
 body_takes : (cs rest : List ℕ) (o : Option (List ℕ)) → after (codes "?>") cs ≡ o → body_at cs o ≡ Some rest → TakesBody cs rest
-body_takes cs rest (Some behind) found e = ([], inl refl, subst (λ (t : List ℕ). cs ≡ codes "?>" ++ t) (some_is behind rest e) (after_takes (codes "?>") cs behind found))
+body_takes cs rest (Some later) found e = ([], inl refl, subst (λ (t : List ℕ). cs ≡ codes "?>" ++ t) (some_is later rest e) (after_takes (codes "?>") cs later found))
 body_takes cs rest None found e =
     let g = passed (starts_blank cs) (up_to (codes "?>") cs >>= λ x. Some x.1) rest e in
     let a = bind_some (up_to (codes "?>") cs) (λ x. Some x.1) rest g.1 in
@@ -251,12 +251,12 @@ lacks_gap [] body h lacks = lacks
 lacks_gap (c ∷ gap) body h lacks = by_before (lacks_gap gap body (both (is_blank c) (list_all is_blank gap) h).1 lacks)
   where
     by_before : Lacks (codes "?>") (gap ++ body) → Lacks (codes "?>") (c ∷ (gap ++ body))
-    by_before ih [] behind e =
-        let at : c ≡ 0x3F = head_same c 0x3F (gap ++ body) (0x3E ∷ behind) e in
+    by_before ih [] later e =
+        let at : c ≡ 0x3F = head_same c 0x3F (gap ++ body) (0x3E ∷ later) e in
         let bad : is_blank 0x3F ≡ true = ap is_blank (sym at) ∙ (both (is_blank c) (list_all is_blank gap) h).0 in
         let no = question_blank in
         absurd cc
-    by_before ih (b ∷ before) behind e = ih before behind (tail_same c b (gap ++ body) (before ++ codes "?>" ++ behind) e)
+    by_before ih (b ∷ before) later e = ih before later (tail_same c b (gap ++ body) (before ++ codes "?>" ++ later) e)
 
 body_again : (inside rest : List ℕ) → IsInstructionText inside → body_at (inside ++ (codes "?>" ++ rest)) (after (codes "?>") (inside ++ (codes "?>" ++ rest))) ≡ Some rest
 body_again inside rest (inl none) = ap (λ (t : List ℕ). body_at (t ++ (codes "?>" ++ rest)) (after (codes "?>") (t ++ (codes "?>" ++ rest)))) none

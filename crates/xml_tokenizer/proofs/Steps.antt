@@ -4,7 +4,8 @@ use Rattle.std.specs.Prelude.{IsTrue}
 use Rattle.std.specs.List.{list_all}
 use Rattle.xml_grammar.proofs.Splits.{both, all_cons, Stops}
 use Rattle.xml_tokenizer.specs.Runs.{taken, past}
-use Rattle.xml_tokenizer.specs.Steps.{◌>>=◌, or_else}
+use Rattle.std.specs.Option.{option_or}
+use Rattle.xml_tokenizer.specs.Steps.{◌>>=◌}
 
 -- ---- tests
 
@@ -42,7 +43,7 @@ pub chosen : {A : Type 0} (b : Bool) (x y z : A) → cond b x y ≡ z → ((b �
 chosen true x y z e = inl (refl, e)
 chosen false x y z e = inr (refl, e)
 
-pub either_gave : {A : Type 0} (r s : Option A) (y : A) → or_else r s ≡ Some y → (r ≡ Some y) ⊎ ((r ≡ None) × (s ≡ Some y))
+pub either_gave : {A : Type 0} (r s : Option A) (y : A) → option_or r s ≡ Some y → (r ≡ Some y) ⊎ ((r ≡ None) × (s ≡ Some y))
 either_gave (Some x) s y e = inl e
 either_gave None s y e = inr (refl, e)
 

@@ -136,9 +136,9 @@ front_of class (c ∷ cs) h = by_size (ltb c 128) refl (both (scalar c) (all_sca
     by_size true e s f = front_low class c cs (ltb-true c 128 e) f
     by_size false e s f = front_wide class c cs (ltb-false c 128 e) (wide class c s (ltb-false c 128 e)) f
 
-pub scalars_behind : (front rest : List ℕ) → all_scalars (front ++ rest) ≡ true → all_scalars rest ≡ true
-scalars_behind [] rest h = h
-scalars_behind (c ∷ front) rest h = scalars_behind front rest (both (scalar c) (all_scalars (front ++ rest)) h).1
+pub scalars_after : (front rest : List ℕ) → all_scalars (front ++ rest) ≡ true → all_scalars rest ≡ true
+scalars_after [] rest h = h
+scalars_after (c ∷ front) rest h = scalars_after front rest (both (scalar c) (all_scalars (front ++ rest)) h).1
 
 pub scalars_before : (front rest : List ℕ) → all_scalars (front ++ rest) ≡ true → all_scalars front ≡ true
 scalars_before [] rest h = refl
@@ -156,7 +156,7 @@ skips_of class text n u is =
     let spelled = encodes-chars text u in
     let at : text ≡ encode_utf8_all f.front ++ encode_utf8_all f.rest = sym spelled ∙ ap encode_utf8_all f.parts ∙ encodes-append f.front f.rest in
     let long : length (encode_utf8_all f.front) ≡ n = sym f.bytes ∙ ap (prefix_len (is_sure class)) spelled ∙ sym is in
-    let rest_scalars : all_scalars f.rest ≡ true = scalars_behind f.front f.rest (ap all_scalars (sym f.parts) ∙ scalars) in
+    let rest_scalars : all_scalars f.rest ≡ true = scalars_after f.front f.rest (ap all_scalars (sym f.parts) ∙ scalars) in
     let rest_text : IsUtf8 (encode_utf8_all f.rest) = (f.rest, (rest_scalars, refl)) in
     let dropped : drop n text ≡ encode_utf8_all f.rest = ap (drop n) at ∙ drop_at (encode_utf8_all f.front) (encode_utf8_all f.rest) n long in
     record {

@@ -58,20 +58,20 @@ unfolding is_name_char is_name_start
 equal_sign = refl
 
 equals_stops : (text rest : List ℕ) → IsEquals text → Stops is_qname_char (text ++ rest)
-equals_stops text rest (before, behind, ba, bb, e) =
-    let split : text ++ rest ≡ before ++ (61 ∷ (behind ++ rest)) = rw e (simp append_assoc) in
-    subst (Stops is_qname_char) (sym split) (blank_stops before (61 ∷ (behind ++ rest)) ba equal_sign)
+equals_stops text rest (before, later, ba, bb, e) =
+    let split : text ++ rest ≡ before ++ (61 ∷ (later ++ rest)) = rw e (simp append_assoc) in
+    subst (Stops is_qname_char) (sym split) (blank_stops before (61 ∷ (later ++ rest)) ba equal_sign)
 
 pub attribute_again : (a : RawAttribute) (text rest : List ℕ) → SpellsAttribute a text → attribute_at (text ++ rest) ≡ Some (a, rest)
 unfolding attribute_at
 attribute_again a text rest (name, equals, value, hn, he, (quote, inside, vs, hq, hv, iv, av), at) =
-    let behind : List ℕ = inside ++ (quote ∷ rest) in
-    let tail : value ++ rest ≡ quote ∷ behind = rw av (ap (λ (t : List ℕ). quote ∷ t) (append_assoc inside (quote ∷ []) rest)) in
-    let split : text ++ rest ≡ name ++ (equals ++ (quote ∷ behind)) = rw at (append_assoc (name ++ equals) value rest ∙ append_assoc name equals (value ++ rest)) ∙ ap (λ (t : List ℕ). name ++ (equals ++ t)) tail in
-    let stops : Stops is_blank (quote ∷ behind) = subst (Stops is_blank) tail (value_stops a.value value rest (quote, inside, vs, hq, hv, iv, av)) in
-    let one = qname_again a.name name (equals ++ (quote ∷ behind)) hn (equals_stops equals (quote ∷ behind) he) in
-    let two = equals_again equals (quote ∷ behind) he stops in
-    let three = quote_again quote behind hq in
+    let later : List ℕ = inside ++ (quote ∷ rest) in
+    let tail : value ++ rest ≡ quote ∷ later = rw av (ap (λ (t : List ℕ). quote ∷ t) (append_assoc inside (quote ∷ []) rest)) in
+    let split : text ++ rest ≡ name ++ (equals ++ (quote ∷ later)) = rw at (append_assoc (name ++ equals) value rest ∙ append_assoc name equals (value ++ rest)) ∙ ap (λ (t : List ℕ). name ++ (equals ++ t)) tail in
+    let stops : Stops is_blank (quote ∷ later) = subst (Stops is_blank) tail (value_stops a.value value rest (quote, inside, vs, hq, hv, iv, av)) in
+    let one = qname_again a.name name (equals ++ (quote ∷ later)) hn (equals_stops equals (quote ∷ later) he) in
+    let two = equals_again equals (quote ∷ later) he stops in
+    let three = quote_again quote later hq in
     let four = value_again quote inside vs rest hq hv in
     ap attribute_at split ∙ rw (one, two, three, four) (ap (λ (v : List ℕ). Some (record { name = a.name; value = v }, rest)) (sym iv))
 
@@ -114,27 +114,27 @@ pub record TakesAttributes (cs : List ℕ) (attributes : List RawAttribute) (res
   pub parts : cs ≡ inside ++ (gap ++ rest)
   pub closed : closes rest ≡ true
 
-gap_from : (gap behind cs : List ℕ) → cs ≡ gap ++ behind → width behind ≢ width cs → AreBlank gap → IsGap gap
-gap_from [] behind cs e h s = h (ap width (sym e))
-gap_from (c ∷ gap) behind cs e h s = s
+gap_from : (gap later cs : List ℕ) → cs ≡ gap ++ later → width later ≢ width cs → AreBlank gap → IsGap gap
+gap_from [] later cs e h s = h (ap width (sym e))
+gap_from (c ∷ gap) later cs e h s = s
 
 pub attributes_takes : (n : ℕ) (cs : List ℕ) (x : List RawAttribute × List ℕ) → attributes_at n cs ≡ Some x → TakesAttributes cs x.0 x.1
 unfolding attributes_at
 attributes_takes zero cs x e = absurd cc
 attributes_takes (suc n) cs x e =
-    let behind = past is_blank cs in
+    let later = past is_blank cs in
     let gap = taken is_blank cs in
-    let split : cs ≡ gap ++ behind = taken_past is_blank cs in
-    elim (chosen (closes behind) _ _ (Some x) e) [
-      | inl y ↦ subst (λ (z : List RawAttribute × List ℕ). TakesAttributes cs z.0 z.1) (some_is ([], behind) x y.1) (record { inside = []; gap = gap; spelled = refl; blank = taken_all is_blank cs; parts = split; closed = y.0 })
+    let split : cs ≡ gap ++ later = taken_past is_blank cs in
+    elim (chosen (closes later) _ _ (Some x) e) [
+      | inl y ↦ subst (λ (z : List RawAttribute × List ℕ). TakesAttributes cs z.0 z.1) (some_is ([], later) x y.1) (record { inside = []; gap = gap; spelled = refl; blank = taken_all is_blank cs; parts = split; closed = y.0 })
       | inr y ↦
-          let z = not_stopped (eqb (width behind) (width cs)) _ x y.1 in
-          let a = bind_some (attribute_at behind) (λ first. attributes_at n first.1 >>= λ more. Some (first.0 ∷ more.0, more.1)) x z.1 in
+          let z = not_stopped (eqb (width later) (width cs)) _ x y.1 in
+          let a = bind_some (attribute_at later) (λ first. attributes_at n first.1 >>= λ more. Some (first.0 ∷ more.0, more.1)) x z.1 in
           let b = bind_some (attributes_at n a.0.1) (λ more. Some (a.0.0 ∷ more.0, more.1)) x a.2 in
-          let t = attribute_takes behind a.0 a.1 in
+          let t = attribute_takes later a.0 a.1 in
           let u = attributes_takes n a.0.1 b.0 b.1 in
           let made : List RawAttribute × List ℕ = (a.0.0 ∷ b.0.0, b.0.1) in
-          let full : IsGap gap = gap_from gap behind cs split (eqb-false _ _ z.0) (taken_all is_blank cs) in
+          let full : IsGap gap = gap_from gap later cs split (eqb-false _ _ z.0) (taken_all is_blank cs) in
           let inside : List ℕ = gap ++ t.0 ++ u.inside in
           let parts : cs ≡ inside ++ (u.gap ++ b.0.1) = split ∙ ap (λ (s : List ℕ). gap ++ s) (t.2 ∙ ap (λ (s : List ℕ). t.0 ++ s) u.parts) ∙ regroup gap t.0 u.inside (u.gap ++ b.0.1) in
           subst (λ (w : List RawAttribute × List ℕ). TakesAttributes cs w.0 w.1) (some_is made x b.2)
@@ -144,10 +144,10 @@ attributes_takes (suc n) cs x e =
     regroup : (a b c d : List ℕ) → a ++ (b ++ (c ++ d)) ≡ (a ++ b ++ c) ++ d
     regroup a b c d = simp append_assoc
 
-gap_moves : (gap behind : List ℕ) → IsGap gap → eqb (width behind) (width (gap ++ behind)) ≡ false
-gap_moves [] behind h = absurd h
-gap_moves (c ∷ gap) behind h =
-    let all : width ((c ∷ gap) ++ behind) ≡ width (c ∷ gap) + width behind = ap length (encodes-append (c ∷ gap) behind) ∙ length-append (encode_utf8_all (c ∷ gap)) (encode_utf8_all behind) in
+gap_moves : (gap later : List ℕ) → IsGap gap → eqb (width later) (width (gap ++ later)) ≡ false
+gap_moves [] later h = absurd h
+gap_moves (c ∷ gap) later h =
+    let all : width ((c ∷ gap) ++ later) ≡ width (c ∷ gap) + width later = ap length (encodes-append (c ∷ gap) later) ∙ length-append (encode_utf8_all (c ∷ gap)) (encode_utf8_all later) in
     ne_eqb _ _ (λ e. omega (arith, all, length-le-encodes (c ∷ gap)))
 
 pub attributes_long : (attributes : List RawAttribute) (text : List ℕ) → SpellsAttributes attributes text → length attributes ≤ length text
@@ -166,13 +166,13 @@ attributes_again (suc n) [] inside gap rest h blank shut lt =
     let k = run_again is_blank gap rest blank (closed_blank rest shut) in
     rw (h, k.1, shut) refl
 attributes_again (suc n) (a ∷ others) inside gap rest (gap1, front, back, full, first, more, e) blank shut lt =
-    let behind : List ℕ = front ++ (back ++ (gap ++ rest)) in
-    let at : inside ++ (gap ++ rest) ≡ gap1 ++ behind = rw e (append_assoc (gap1 ++ front) back (gap ++ rest) ∙ append_assoc gap1 front (back ++ (gap ++ rest))) in
+    let later : List ℕ = front ++ (back ++ (gap ++ rest)) in
+    let at : inside ++ (gap ++ rest) ≡ gap1 ++ later = rw e (append_assoc (gap1 ++ front) back (gap ++ rest) ∙ append_assoc gap1 front (back ++ (gap ++ rest))) in
     let s = attribute_starts a front (back ++ (gap ++ rest)) first in
-    let k = run_again is_blank gap1 behind (gap_blank gap1 full) s.1 in
+    let k = run_again is_blank gap1 later (gap_blank gap1 full) s.1 in
     let again = attribute_again a front (back ++ (gap ++ rest)) first in
     let ih = attributes_again n others back gap rest more blank shut (omega arith) in
-    ap (attributes_at (suc n)) at ∙ rw (k.1, s.0, gap_moves gap1 behind full, again, ih) refl
+    ap (attributes_at (suc n)) at ∙ rw (k.1, s.0, gap_moves gap1 later full, again, ih) refl
 
 -- ---- tags
 
@@ -228,10 +228,10 @@ pub start_again : (tag : Tag) (name inside gap rest : List ℕ) → SpellsQName 
 unfolding start_at
 start_again tag name inside gap rest hn hi blank =
     let shut = close_closes tag.empty rest in
-    let behind : List ℕ = inside ++ (gap ++ (tag_close tag.empty ++ rest)) in
-    let n = qname_again tag.name name behind hn (inside_stops tag.attributes inside (gap ++ (tag_close tag.empty ++ rest)) hi (blank_stops gap (tag_close tag.empty ++ rest) blank (closed_qname (tag_close tag.empty ++ rest) shut))) in
-    let lt : length tag.attributes < width behind = omega (arith, attributes_long tag.attributes inside hi, length-le-encodes behind, length-append inside (gap ++ (tag_close tag.empty ++ rest)), length-append gap (tag_close tag.empty ++ rest), close_long tag.empty rest) in
-    let a = attributes_again (width behind) tag.attributes inside gap (tag_close tag.empty ++ rest) hi blank shut lt in
+    let later : List ℕ = inside ++ (gap ++ (tag_close tag.empty ++ rest)) in
+    let n = qname_again tag.name name later hn (inside_stops tag.attributes inside (gap ++ (tag_close tag.empty ++ rest)) hi (blank_stops gap (tag_close tag.empty ++ rest) blank (closed_qname (tag_close tag.empty ++ rest) shut))) in
+    let lt : length tag.attributes < width later = omega (arith, attributes_long tag.attributes inside hi, length-le-encodes later, length-append inside (gap ++ (tag_close tag.empty ++ rest)), length-append gap (tag_close tag.empty ++ rest), close_long tag.empty rest) in
+    let a = attributes_again (width later) tag.attributes inside gap (tag_close tag.empty ++ rest) hi blank shut lt in
     rw (n, a, close_again tag.empty rest) refl
   where
     close_long : (empty : Bool) (rest : List ℕ) → 0 < length (tag_close empty ++ rest)

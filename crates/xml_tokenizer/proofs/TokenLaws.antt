@@ -16,7 +16,7 @@ use Rattle.xml_grammar.specs.declared.tokens.Token.{Token}
 use Rattle.xml_grammar.specs.declared.tokens.Token.TheVariants as tokens
 use Rattle.xml_grammar.specs.Spelling.{BeginsWith, line_ends}
 use Rattle.xml_grammar.specs.Pieces.{Piece, Declaration, Instruction, Comment, Cdata, Start, End, Reference, LineEnd, Character, Spells, Fits, HasPiece, tag_close}
-use Rattle.xml_grammar.specs.Rows.{StandsRow, later, pieces_of, IsSpelled}
+use Rattle.xml_tokenizer.specs.Rows.{StandsRow, later, pieces_of, IsSpelled}
 use Rattle.xml_grammar.proofs.Splits.{both, both_again, cons_same, head_same, tail_same, not_both}
 use Rattle.xml_grammar.proofs.Parts.{apart, qname_starts}
 use Rattle.xml_tokenizer.specs.Classes.{is_plain}
@@ -24,8 +24,9 @@ use Rattle.xml_tokenizer.specs.Declarations.{declaration_at}
 use Rattle.xml_tokenizer.specs.References.{reference_at}
 use Rattle.xml_tokenizer.specs.Runs.{after, begins}
 use Rattle.xml_tokenizer.specs.Sections.{comment_at, cdata_at, instruction_at}
-use Rattle.xml_tokenizer.specs.Stands.{IsBehind}
-use Rattle.xml_tokenizer.specs.Steps.{◌>>=◌, or_else}
+use Rattle.xml_tokenizer.specs.Stands.{IsAfter}
+use Rattle.std.specs.Option.{option_or}
+use Rattle.xml_tokenizer.specs.Steps.{◌>>=◌}
 use Rattle.xml_tokenizer.specs.Tags.{start_at, end_at}
 use Rattle.xml_tokenizer.specs.Tokens.{is_start, is_inside, declared_at, question_at, comment_or, section_at, markup_at, starts_plain, plain_front, plain_back, run_at, token_at}
 use Rattle.xml_tokenizer.specs.Values.{past_feed}
@@ -293,7 +294,7 @@ bound_spelled : {A : Type 0} (r : Option A) (f : A → Token × List ℕ) (x : T
 bound_spelled None f x h e = absurd cc
 bound_spelled (Some a) f x h e = spelled_as (f a) x e (h a)
 
-or_spelled : (r s : Option (Token × List ℕ)) (x : Token × List ℕ) → (r ≡ Some x → IsSpelled x.0) → (s ≡ Some x → IsSpelled x.0) → or_else r s ≡ Some x → IsSpelled x.0
+or_spelled : (r s : Option (Token × List ℕ)) (x : Token × List ℕ) → (r ≡ Some x → IsSpelled x.0) → (s ≡ Some x → IsSpelled x.0) → option_or r s ≡ Some x → IsSpelled x.0
 or_spelled (Some y) s x f g e = f e
 or_spelled None s x f g e = g e
 
@@ -315,7 +316,7 @@ unfolding markup_at question_at
 markup_spelled start [] x e = absurd cc
 markup_spelled start (c ∷ cs) x e = by_slash (eqb c 47) e
   where
-    question : or_else (declared_at start (after (codes "xml") cs)) (instruction_at cs >>= λ rest. Some (tokens.Instruction, rest)) ≡ Some x → IsSpelled x.0
+    question : option_or (declared_at start (after (codes "xml") cs)) (instruction_at cs >>= λ rest. Some (tokens.Instruction, rest)) ≡ Some x → IsSpelled x.0
     question h =
         or_spelled (declared_at start (after (codes "xml") cs)) (instruction_at cs >>= λ rest. Some (tokens.Instruction, rest)) x
         (declared_spelled start (after (codes "xml") cs) x) (bound_spelled (instruction_at cs) (λ rest. (tokens.Instruction, rest)) x (λ a. tt)) h
@@ -361,7 +362,7 @@ token_spelled mode (c ∷ cs) x e = by_less (eqb c 60) e
 abbrev pub Gave : Option (Token × List ℕ) → Type 0
 Gave r = (y : Token × List ℕ) × (r ≡ Some y)
 
-gave_else : (r s : Option (Token × List ℕ)) → Gave s → Gave (or_else r s)
+gave_else : (r s : Option (Token × List ℕ)) → Gave s → Gave (option_or r s)
 gave_else (Some x) s h = (x, refl)
 gave_else None s h = h
 
@@ -373,7 +374,7 @@ unfolding token_at markup_at question_at
 declaration_gave encoding front back h =
     let d = declaration_again encoding front h in
     let read : Gave (declared_at true (Some (d.0 ++ back))) = ((tokens.Declaration encoding, back), rw (d.2 back) refl) in
-    let all : Gave (or_else (declared_at true (Some (d.0 ++ back))) (instruction_at (codes "xml" ++ (d.0 ++ back)) >>= λ rest. Some (tokens.Instruction, rest))) = ((tokens.Declaration encoding, back), ap (λ (o : Option (Token × List ℕ)). or_else o (instruction_at (codes "xml" ++ (d.0 ++ back)) >>= λ rest. Some (tokens.Instruction, rest))) read.1) in
+    let all : Gave (option_or (declared_at true (Some (d.0 ++ back))) (instruction_at (codes "xml" ++ (d.0 ++ back)) >>= λ rest. Some (tokens.Instruction, rest))) = ((tokens.Declaration encoding, back), ap (λ (o : Option (Token × List ℕ)). option_or o (instruction_at (codes "xml" ++ (d.0 ++ back)) >>= λ rest. Some (tokens.Instruction, rest))) read.1) in
     subst (λ (t : List ℕ). Gave (token_at modes.Start (t ++ back))) (sym d.1) all
 
 instruction_gave : (mode : Mode) (front back : List ℕ) → Spells Instruction front → Gave (token_at mode (front ++ back))
@@ -492,8 +493,8 @@ row_front mode (p ∷ ps) text left (front, back, stands, more, at) =
     let long = stands_some mode p front back stands in
     (front ++ r.0, at ∙ ap (λ (t : List ℕ). front ++ t) r.1 ∙ sym (append_assoc front r.0 left), λ some. omega (arith, length-append front r.0))
 
-pub behind_row : (mode : Mode) (ps : List Piece) (text rest : List ℕ) → IsUtf8 text → IsUtf8 rest → Row mode ps (chars text) (chars rest) → IsBehind text rest
-behind_row mode ps text rest u v h =
+pub after_row : (mode : Mode) (ps : List Piece) (text rest : List ℕ) → IsUtf8 text → IsUtf8 rest → Row mode ps (chars text) (chars rest) → IsAfter text rest
+after_row mode ps text rest u v h =
     let r = row_front mode ps (chars text) (chars rest) h.0 in
     let at : text ≡ encode_utf8_all r.0 ++ rest = sym (encodes-chars text u) ∙ ap encode_utf8_all r.1 ∙ encodes-append r.0 (chars rest) ∙ ap (λ (t : List ℕ). encode_utf8_all r.0 ++ t) (encodes-chars rest v) in
     let long = r.2 h.1 in

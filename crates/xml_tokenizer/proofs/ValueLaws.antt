@@ -102,8 +102,8 @@ ends_nil (c ∷ cs) e = by_test (eqb c 13) e
     by_test false h = absurd cc
 
 -- after CR a text that LF doesn't begin is read as ever
-ends_behind : (cs : List ℕ) → past_feed cs ≡ cs → line_ends_after true cs ≡ line_ends cs
-ends_behind cs e = ends_feed cs ∙ ap line_ends e
+ends_after : (cs : List ℕ) → past_feed cs ≡ cs → line_ends_after true cs ≡ line_ends cs
+ends_after cs e = ends_feed cs ∙ ap line_ends e
 
 pub feed_is : (c : ℕ) (cs : List ℕ) → eqb c 10 ≡ false → past_feed (c ∷ cs) ≡ c ∷ cs
 feed_is c cs e = rw e refl
@@ -211,7 +211,7 @@ reads_return n quote vs (e ∷ es) v q is less follow rest = by_feed (eqb e 10) 
         reads_special n quote vs 13 v (e ∷ (es ++ (quote ∷ rest))) es rest no (quote_differs quote 13 q refl refl)
         (special_return (e ∷ (es ++ (quote ∷ rest))) ∙ ap (λ (t : List ℕ). Some (32, t)) feed ∙ ap (λ (d : ℕ). Some (d, es ++ (quote ∷ rest))) (sym is)) (follow es back (omega arith))
     by_feed false h =
-        let back : line_ends_after true (e ∷ es) ≡ line_ends (e ∷ es) = ends_behind (e ∷ es) (feed_is e es h) in
+        let back : line_ends_after true (e ∷ es) ≡ line_ends (e ∷ es) = ends_after (e ∷ es) (feed_is e es h) in
         reads_special n quote vs 13 v (e ∷ (es ++ (quote ∷ rest))) (e ∷ es) rest no (quote_differs quote 13 q refl refl)
         (special_return (e ∷ (es ++ (quote ∷ rest))) ∙ ap (λ (t : List ℕ). Some (32, t)) (feed_is e (es ++ (quote ∷ rest)) h) ∙ ap (λ (d : ℕ). Some (d, e ∷ (es ++ (quote ∷ rest)))) (sym is)) (follow (e ∷ es) back less)
 
@@ -334,7 +334,7 @@ prepends_return quote cs q = by_feed cs
       refl,
       λ inside vs rest at h.
           let is : past_feed inside ≡ inside = feed_inside quote inside rest q (ap past_feed (sym at) ∙ e ∙ at) in
-          (10 ∷ [], line_ends inside, space_is quote 10 q (inr refl), h, ap (λ (t : List ℕ). 10 ∷ t) (ends_behind inside is)),
+          (10 ∷ [], line_ends inside, space_is quote 10 q (inr refl), h, ap (λ (t : List ℕ). 10 ∷ t) (ends_after inside is)),
     )
 
     by_test : (c : ℕ) (ds : List ℕ) (v : Bool) → eqb c 10 ≡ v → Prepends quote (13 ∷ c ∷ ds) (32, cond v ds (c ∷ ds))
@@ -375,21 +375,34 @@ takes_special : (quote : ℕ) (cs : List ℕ) (s : ℕ × List ℕ) (y : List �
 takes_special quote cs s y (front, at, spells) (inside, vs, spelled, value, rest) =
     (front ++ inside, s.0 ∷ vs, spells inside vs y.1 rest spelled, ap (λ (t : List ℕ). encode_utf8 s.0 ++ t) value, at ∙ ap (λ (t : List ℕ). front ++ t) rest ∙ sym (append_assoc front inside (quote ∷ y.1)))
 
+-- one of what isn't read as it is written, a run, and the rest of the value
+tail_step : (quote : ℕ) (cs run : List ℕ) (s : ℕ × List ℕ) (y x : List ℕ × List ℕ) → Prepends quote cs s → TakesValue quote s.1 (run ++ y.0, y.1)
+    → x ≡ ((encode_utf8 s.0 ++ run) ++ y.0, y.1) → TakesValue quote cs x
+tail_step quote cs run s y x special value is =
+    subst (TakesValue quote cs) (ap (λ (t : List ℕ). (t, y.1)) (sym (append_assoc (encode_utf8 s.0) run y.0)) ∙ sym is) (takes_special quote cs s (run ++ y.0, y.1) special value)
+
+tail_after : (n quote : ℕ) (cs : List ℕ) (x : List ℕ × List ℕ) → IsQuote quote → ((ds : List ℕ) (y : List ℕ × List ℕ) → tail_at n quote ds ≡ Some y → TakesValue quote ds y)
+    → (s : ℕ × List ℕ) → special_at cs ≡ Some s → with_front (encode_utf8 s.0 ++ encode_utf8_all (taken (is_value quote) s.1)) (tail_at n quote (past (is_value quote) s.1)) ≡ Some x → TakesValue quote cs x
+tail_after n quote cs x q ih s special read =
+    from (front_gave (encode_utf8 s.0 ++ encode_utf8_all (taken (is_value quote) s.1)) (tail_at n quote (past (is_value quote) s.1)) x read)
+  where
+    from : (y : List ℕ × List ℕ) × (tail_at n quote (past (is_value quote) s.1) ≡ Some y) × (x ≡ ((encode_utf8 s.0 ++ encode_utf8_all (taken (is_value quote) s.1)) ++ y.0, y.1)) → TakesValue quote cs x
+    from (y, more, is) =
+        tail_step quote cs (encode_utf8_all (taken (is_value quote) s.1)) s y x (special_takes quote cs s q special) (takes_run quote s.1 y (ih (past (is_value quote) s.1) y more)) is
+
 tail_takes : (n quote : ℕ) (cs : List ℕ) (x : List ℕ × List ℕ) → IsQuote quote → tail_at n quote cs ≡ Some x → TakesValue quote cs x
 unfolding tail_at
 tail_takes zero quote cs x q e = absurd cc
 tail_takes (suc n) quote cs x q e = by_end (after (quote ∷ []) cs) refl e (λ ds y h. tail_takes n quote ds y q h)
   where
+    from : ((ds : List ℕ) (y : List ℕ × List ℕ) → tail_at n quote ds ≡ Some y → TakesValue quote ds y)
+        → (s : ℕ × List ℕ) × (special_at cs ≡ Some s) × (with_front (encode_utf8 s.0 ++ encode_utf8_all (taken (is_value quote) s.1)) (tail_at n quote (past (is_value quote) s.1)) ≡ Some x) → TakesValue quote cs x
+    from ih (s, special, read) = tail_after n quote cs x q ih s special read
+
     by_end : (o : Option (List ℕ)) → after (quote ∷ []) cs ≡ o → ended o (special_at cs >>= λ s. with_front (encode_utf8 s.0 ++ encode_utf8_all (taken (is_value quote) s.1)) (tail_at n quote (past (is_value quote) s.1))) ≡ Some x
         → ((ds : List ℕ) (y : List ℕ × List ℕ) → tail_at n quote ds ≡ Some y → TakesValue quote ds y) → TakesValue quote cs x
     by_end (Some rest) found h ih = subst (TakesValue quote cs) (some_is ([], rest) x h) ([], [], refl, refl, after_takes (quote ∷ []) cs rest found)
-    by_end None found h ih =
-        let a = bind_some (special_at cs) (λ s. with_front (encode_utf8 s.0 ++ encode_utf8_all (taken (is_value quote) s.1)) (tail_at n quote (past (is_value quote) s.1))) x h in
-        let b = front_gave (encode_utf8 a.0.0 ++ encode_utf8_all (taken (is_value quote) a.0.1)) (tail_at n quote (past (is_value quote) a.0.1)) x a.2 in
-        let t = takes_run quote a.0.1 b.0 (ih (past (is_value quote) a.0.1) b.0 b.1) in
-        let u = takes_special quote cs a.0 (encode_utf8_all (taken (is_value quote) a.0.1) ++ b.0.0, b.0.1) (special_takes quote cs a.0 q a.1) t in
-        let same : (encode_utf8 a.0.0 ++ (encode_utf8_all (taken (is_value quote) a.0.1) ++ b.0.0), b.0.1) ≡ x = ap (λ (t : List ℕ). (t, b.0.1)) (sym (append_assoc (encode_utf8 a.0.0) (encode_utf8_all (taken (is_value quote) a.0.1)) b.0.0)) ∙ sym b.2 in
-        subst (TakesValue quote cs) same u
+    by_end None found h ih = from ih (bind_some (special_at cs) (λ s. with_front (encode_utf8 s.0 ++ encode_utf8_all (taken (is_value quote) s.1)) (tail_at n quote (past (is_value quote) s.1))) x h)
 
 -- ---- values, and what stands before them
 
@@ -426,9 +439,9 @@ equals_takes cs rest e =
     let a = bind_some (after (codes "=") (past is_blank cs)) (λ x. Some (past is_blank x)) rest e in
     let at : past is_blank cs ≡ 61 ∷ a.0 = after_takes (codes "=") (past is_blank cs) a.0 a.1 in
     let before = taken is_blank cs in
-    let behind = taken is_blank a.0 in
-    let all : cs ≡ (before ++ codes "=" ++ behind) ++ past is_blank a.0 = taken_past is_blank cs ∙ ap (λ (t : List ℕ). before ++ t) (at ∙ ap (λ (t : List ℕ). 61 ∷ t) (taken_past is_blank a.0)) ∙ regroup before behind (past is_blank a.0) in
-    (before ++ codes "=" ++ behind, (before, behind, taken_all is_blank cs, taken_all is_blank a.0, refl), all ∙ ap (λ (t : List ℕ). (before ++ codes "=" ++ behind) ++ t) (some_is (past is_blank a.0) rest a.2))
+    let later = taken is_blank a.0 in
+    let all : cs ≡ (before ++ codes "=" ++ later) ++ past is_blank a.0 = taken_past is_blank cs ∙ ap (λ (t : List ℕ). before ++ t) (at ∙ ap (λ (t : List ℕ). 61 ∷ t) (taken_past is_blank a.0)) ∙ regroup before later (past is_blank a.0) in
+    (before ++ codes "=" ++ later, (before, later, taken_all is_blank cs, taken_all is_blank a.0, refl), all ∙ ap (λ (t : List ℕ). (before ++ codes "=" ++ later) ++ t) (some_is (past is_blank a.0) rest a.2))
   where
     regroup : (a b c : List ℕ) → a ++ (61 ∷ (b ++ c)) ≡ (a ++ codes "=" ++ b) ++ c
     regroup a b c = simp append_assoc
@@ -439,8 +452,8 @@ equals_stops = refl
 
 pub equals_again : (text rest : List ℕ) → IsEquals text → Stops is_blank rest → equals_at (text ++ rest) ≡ Some rest
 unfolding equals_at
-equals_again text rest (before, behind, ba, bb, e) s =
-    let split : text ++ rest ≡ before ++ (61 ∷ (behind ++ rest)) = rw e (simp append_assoc) in
-    let one = run_again is_blank before (61 ∷ (behind ++ rest)) ba equals_stops in
-    let two = run_again is_blank behind rest bb s in
+equals_again text rest (before, later, ba, bb, e) s =
+    let split : text ++ rest ≡ before ++ (61 ∷ (later ++ rest)) = rw e (simp append_assoc) in
+    let one = run_again is_blank before (61 ∷ (later ++ rest)) ba equals_stops in
+    let two = run_again is_blank later rest bb s in
     ap (λ (t : List ℕ). after (codes "=") (past is_blank t) >>= λ x. Some (past is_blank x)) split ∙ rw (one.1, two.1) refl

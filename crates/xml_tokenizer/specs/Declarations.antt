@@ -4,7 +4,8 @@ use Rattle.xmp_values.specs.Characters.{is_blank, is_name_char}
 use Rattle.xml_grammar.specs.Spelling.{is_digit}
 use Rattle.xml_tokenizer.specs.Runs.{taken, past, after, starts_with}
 use Rattle.xml_tokenizer.specs.Sections.{starts_blank}
-use Rattle.xml_tokenizer.specs.Steps.{◌>>=◌, or_else}
+use Rattle.std.specs.Option.{option_or}
+use Rattle.xml_tokenizer.specs.Steps.{◌>>=◌}
 use Rattle.xml_tokenizer.specs.Values.{equals_at, quote_at}
 
 -- white space, a word, `=` and a quote
@@ -32,7 +33,7 @@ optional cs None = (None, cs)
 optional cs (Some x) = (Some x.0, x.1)
 
 abbrev pub answer_at : List ℕ → Option (List ℕ)
-answer_at cs = or_else (after (codes "yes") cs) (after (codes "no") cs)
+answer_at cs = option_or (after (codes "yes") cs) (after (codes "no") cs)
 
 unfoldable pub standalone_at : List ℕ → Option (List ℕ)
 standalone_at cs = given_at (codes "standalone") cs >>= λ quote. answer_at quote.1 >>= λ x. after (quote.0 ∷ []) x

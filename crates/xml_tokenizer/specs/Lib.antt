@@ -3,6 +3,7 @@ pub mod Declarations
 pub mod Faults
 pub mod Names
 pub mod References
+pub mod Rows
 pub mod Runs
 pub mod Sections
 pub mod Stands

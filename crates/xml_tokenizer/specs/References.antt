@@ -4,17 +4,18 @@ use Rattle.std.specs.Char.{digit_value}
 use Rattle.xmp_values.specs.Characters.{is_char}
 use Rattle.xml_grammar.specs.Spelling.{is_digit}
 use Rattle.xml_tokenizer.specs.Runs.{taken, past, after}
-use Rattle.xml_tokenizer.specs.Steps.{◌>>=◌, or_else}
+use Rattle.std.specs.Option.{option_or}
+use Rattle.xml_tokenizer.specs.Steps.{◌>>=◌}
 
 abbrev pub named_at : List ℕ → ℕ → List ℕ → Option (ℕ × List ℕ)
 named_at word c cs = after word cs >>= λ rest. Some (c, rest)
 
 unfoldable pub entity_at : List ℕ → Option (ℕ × List ℕ)
 entity_at cs =
-    or_else (named_at (codes "lt;") 0x3C cs)
-    (or_else (named_at (codes "gt;") 0x3E cs)
-    (or_else (named_at (codes "amp;") 0x26 cs)
-    (or_else (named_at (codes "apos;") 0x27 cs) (named_at (codes "quot;") 0x22 cs))))
+    option_or (named_at (codes "lt;") 0x3C cs)
+    (option_or (named_at (codes "gt;") 0x3E cs)
+    (option_or (named_at (codes "amp;") 0x26 cs)
+    (option_or (named_at (codes "apos;") 0x27 cs) (named_at (codes "quot;") 0x22 cs))))
 
 -- one more than any character, where numbers stop to grow
 abbrev pub no_char : ℕ

@@ -11,5 +11,5 @@ abbrev pub IsRuleIn : Mode → List ℕ → Rule → Type 0
 IsRuleIn mode cs r = (HasPiece mode cs → ⊥) × (cs ≢ [] → (s : Nest) → mode_of s ≡ mode → IsRule s cs r)
 
 -- the rest is what is left after a front of the text, of one byte at least
-abbrev pub IsBehind : List ℕ → List ℕ → Type 0
-IsBehind text rest = (front : List ℕ) × (text ≡ front ++ rest) × (0 < length front)
+abbrev pub IsAfter : List ℕ → List ℕ → Type 0
+IsAfter text rest = (front : List ℕ) × (text ≡ front ++ rest) × (0 < length front)

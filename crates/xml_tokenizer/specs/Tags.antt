@@ -26,11 +26,11 @@ closes (c ∷ cs) = c == 62 || c == 47
 unfoldable pub attributes_at : ℕ → List ℕ → Option (List RawAttribute × List ℕ)
 attributes_at zero cs = None
 attributes_at (suc n) cs =
-    let behind = past is_blank cs in
-    if closes behind then Some ([], behind)
-    else if width behind == width cs then None
+    let later = past is_blank cs in
+    if closes later then Some ([], later)
+    else if width later == width cs then None
     else (do
-      first ← attribute_at behind
+      first ← attribute_at later
       more ← attributes_at n first.1
       Some (first.0 ∷ more.0, more.1))
 

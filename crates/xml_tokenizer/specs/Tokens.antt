@@ -9,7 +9,8 @@ use Rattle.xml_tokenizer.specs.Declarations.{declaration_at}
 use Rattle.xml_tokenizer.specs.References.{reference_at}
 use Rattle.xml_tokenizer.specs.Runs.{after, begins}
 use Rattle.xml_tokenizer.specs.Sections.{comment_at, cdata_at, instruction_at}
-use Rattle.xml_tokenizer.specs.Steps.{◌>>=◌, or_else}
+use Rattle.std.specs.Option.{option_or}
+use Rattle.xml_tokenizer.specs.Steps.{◌>>=◌}
 use Rattle.xml_tokenizer.specs.Tags.{start_at, end_at}
 use Rattle.xml_tokenizer.specs.Values.{past_feed}
 
@@ -31,7 +32,7 @@ declared_at false found = None
 
 -- after `<?`
 unfoldable pub question_at : Bool → List ℕ → Option (Token × List ℕ)
-question_at start cs = or_else (declared_at start (after (codes "xml") cs)) (instruction_at cs >>= λ rest. Some (tokens.Instruction, rest))
+question_at start cs = option_or (declared_at start (after (codes "xml") cs)) (instruction_at cs >>= λ rest. Some (tokens.Instruction, rest))
 
 abbrev pub comment_or : List ℕ → Option (List ℕ) → Option (Token × List ℕ)
 comment_or cs (Some rest) = comment_at rest >>= λ x. Some (tokens.Comment, x)

@@ -20,10 +20,7 @@ mod texts;
 mod tokens;
 mod values;
 
-pub use texts::{behind_mark, text_of};
+pub use texts::{after_mark, text_of};
 pub use tokens::token_of;
 /// The least rule that holds for what stands at a place, or out of memory.
 pub use xmp_values::RuleStop as TokenStop;
-
-#[cfg(test)]
-mod tests;

@@ -7,8 +7,8 @@ ghost use Rattle.xml_grammar.specs.Spelling.{line_ends};
 
 use crate::values::after_feed;
 use memchr::memchr;
-use std::alloc::{AllocError, Global};
-use xmp_values::{Bytes, Text};
+use std::alloc::Global;
+use xmp_values::{Bytes, Memory, Text};
 
 /// The text before its first CR, and the text after the line end that this CR is or begins.
 fn next_line(text: &str) -> Option<(&str, &str)>
@@ -24,7 +24,7 @@ fn next_line(text: &str) -> Option<(&str, &str)>
     Some((line, after_feed(next)))
 }
 
-fn owned_lines(alloc: Global, text: &str) -> Result<String, AllocError>
+fn owned_lines(alloc: Global, text: &str) -> Result<String, Memory>
     ensures { IfOk result (λ s. string_bytes s ≡ encode_utf8_all (line_ends (chars text.now))) }
 {
     let mut owned = String::new(alloc);
@@ -42,14 +42,14 @@ fn owned_lines(alloc: Global, text: &str) -> Result<String, AllocError>
 }
 
 /// The text with each line end as LF. It is borrowed where it has no CR.
-pub fn lines_of(alloc: Global, text: &str) -> Result<Text<'_>, AllocError>
+pub fn lines_of(alloc: Global, text: &str) -> Result<Text<'_>, Memory>
     ensures { IfOk result (λ x. x ≡ encode_utf8_all (line_ends (chars text.now))) }
 {
     match next_line(text) {
         None => Ok(Text::raw(text.as_bytes())),
         Some(_) => {
             let owned = owned_lines(alloc, text)?;
-            Ok(Text::own(Bytes::from_vec(owned.into_bytes())))
+            Text::own(alloc, Bytes::from_vec(owned.into_bytes()))
         }
     }
 }

@@ -3,7 +3,7 @@
 ghost use Rattle.std.specs.Prelude.{◌≡◌, ◌↔◌, ◌⊎◌, IsTrue, IsUtf8, IfOk, IfErr};
 ghost use Rattle.std.specs.Str.{chars};
 ghost use Rattle.xmp_values.specs.declared.rules.Rule.TheVariants.{Utf16, NotUtf8};
-ghost use Rattle.xml_grammar.specs.Documents.{IsUtf16, IsFault, behind_mark};
+ghost use Rattle.xml_grammar.specs.Documents.{IsUtf16, IsFault, after_mark};
 
 use crate::runs::next_char;
 use simdutf8::compat::from_utf8;
@@ -32,8 +32,8 @@ pub fn text_of(bytes: &[u8]) -> Result<&str, (Rule, u64)>
 }
 
 /// The text after one U+FEFF at its start.
-pub fn behind_mark(text: &str) -> &str
-    ensures { chars result.now ≡ behind_mark (chars text.now) }
+pub fn after_mark(text: &str) -> &str
+    ensures { chars result.now ≡ after_mark (chars text.now) }
 {
     match next_char(text) {
         Some(('\u{FEFF}', rest)) => rest,

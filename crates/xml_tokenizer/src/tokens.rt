@@ -4,9 +4,9 @@ ghost use Rattle.std.specs.Prelude.{◌≡◌, ◌≢◌, [], IfOk, IfErr, encod
 ghost use Rattle.std.specs.Str.{chars};
 ghost use Rattle.xmp_values.specs.Stops.{Stops, rule_of};
 ghost use Rattle.xmp_values.specs.declared.rules.Rule.TheVariants.{Unfinished};
-ghost use Rattle.xml_grammar.specs.Rows.{StandsRow, pieces_of, IsSpelled};
+ghost use Rattle.xml_tokenizer.specs.Rows.{StandsRow, pieces_of, IsSpelled};
 ghost use Rattle.xml_tokenizer.specs.Faults.{markup_rule, rule_at};
-ghost use Rattle.xml_tokenizer.specs.Stands.{IsRuleIn, IsBehind};
+ghost use Rattle.xml_tokenizer.specs.Stands.{IsRuleIn, IsAfter};
 ghost use Rattle.xml_tokenizer.specs.Tokens.{is_start, is_inside, question_at, section_at, markup_at, plain_front, plain_back, run_at, token_at};
 ghost use Rattle.xml_tokenizer.specs.Steps.{Gives, Reads};
 
@@ -163,7 +163,7 @@ pub fn token_of(alloc: Global, mode: Mode, text: &str) -> Result<(Token<'_>, &st
     // Its pieces stand there, one after the other, before what is left.
     ensures stands { IfOk result (λ x. StandsRow mode (pieces_of x.0) (chars text.now) (chars x.1.now)) }
     // It has one piece at least, and takes one byte at least.
-    ensures some { IfOk result (λ x. (pieces_of x.0 ≢ []) × IsBehind text.now x.1.now) }
+    ensures some { IfOk result (λ x. (pieces_of x.0 ≢ []) × IsAfter text.now x.1.now) }
     // The bytes of a run are those of its characters.
     ensures spelled { IfOk result (λ x. IsSpelled x.0) }
     // Without a token no piece stands there, and the rule goes by what the text begins with.

@@ -95,5 +95,6 @@ pub fn value_of(alloc: Global, quote: char, text: &str) -> Result<(Text<'_>, &st
     }
     let front = String::from_str(alloc, plain)?;
     let (owned, next) = tail_of(front, quote, width_of(text), rest)?;
-    Ok((Text::own(Bytes::from_vec(owned.into_bytes())), next))
+    let value = Text::own(alloc, Bytes::from_vec(owned.into_bytes()))?;
+    Ok((value, next))
 }

@@ -25,7 +25,7 @@ grown_none a name = record { grown = λ bytes held. held ∙ ap Some (sym (appen
 grown_as : (a b : Files) (name p q : List ℕ) → p ≡ q → Grown a b name p → Grown a b name q
 grown_as a b name p q e g = subst (Grown a b name) e g
 
--- what is put at the end of a file is behind its bytes
+-- what is put at the end of a file is after its bytes
 put_end : (file : List ℕ) (at : ℕ) (piece : List ℕ) → length file ≡ at → put_at file at piece ≡ file ++ piece
 put_end file at piece e =
     ap (λ (l : List ℕ). l ++ piece ++ drop (at + length piece) file) (take_all at file (omega (arith, e)))
@@ -42,7 +42,7 @@ insert_grown files name at piece size = record {
   others = λ other apart. get-insert_other files name _ other apart;
 }
 
--- what a failed write left behind the file's bytes
+-- what a failed write left after the file's bytes
 insert_torn : (files : Files) (name : List ℕ) (at n : ℕ) (now : List ℕ) → length (bytes_of files name) ≡ at → Torn at n (bytes_of files name) now
     → Grown files (insert files name now) name (drop at now)
 insert_torn files name at n now size torn = record {
@@ -135,7 +135,7 @@ still_none t = record {
 still_len : (t u : DeskState) (name : List ℕ) → Still t u → len_of u name ≡ len_of t name
 still_len t u name still = ap (λ (m : Lens). unwrap_or (get m name) 0) still.lens
 
--- a part of B behind all of A is a part of A with B and more
+-- a part of B after all of A is a part of A with B and more
 part_after : (A B part rest C : List ℕ) (k most : ℕ) → PartOf part B k → k ≤ most → C ≡ (A ++ B) ++ rest → PartOf (A ++ part) C most
 part_after A B part rest C k most p less is = record {
   whole = A ++ p.whole;
@@ -176,18 +176,18 @@ module _ (s t u : DeskState) (name : List ℕ) (A C : Files → List ℕ) (a c m
   }
 
   module _ (v : DeskState) (B : Files → List ℕ) (b k : ℕ) where
-    behind : len_of u name ≡ len_of s name + a
-    behind = still_len t u name still ∙ len_insert s t name (len_of s name + a) first.lens
+    after : len_of u name ≡ len_of s name + a
+    after = still_len t u name still ∙ len_insert s t name (len_of s name + a) first.lens
 
     wrote_both : MovesInside name (len_of u name) (len_of u name + b) u.wrote v.wrote → a + b ≤ c → MovesInside name (len_of s name) (len_of s name + c) s.wrote v.wrote
     wrote_both second less = inside_trans name (len_of s name) (len_of s name + c) s.wrote u.wrote v.wrote
         (inside_wider name (len_of s name) (len_of s name + c) s.wrote (len_of s name) (len_of s name + a) u.wrote (omega arith) (omega arith)
         (subst (MovesInside name (len_of s name) (len_of s name + a) s.wrote) (sym still.same.wrote) first.wrote))
-        (inside_wider name (len_of s name) (len_of s name + c) u.wrote (len_of u name) (len_of u name + b) v.wrote (omega (arith, behind)) (omega (arith, behind)) second)
+        (inside_wider name (len_of s name) (len_of s name + c) u.wrote (len_of u name) (len_of u name + b) v.wrote (omega (arith, after)) (omega (arith, after)) second)
 
     lens_both : (n : ℕ) → v.lens ≡ insert u.lens name (len_of u name + n) → v.lens ≡ insert s.lens name (len_of s name + (a + n))
     lens_both n e = e ∙ ap (λ (m : Lens). insert m name (len_of u name + n)) (still.lens ∙ first.lens)
-        ∙ insert_twice s.lens name (len_of s name + a) (len_of u name + n) ∙ ap (insert s.lens name) (omega (arith, behind))
+        ∙ insert_twice s.lens name (len_of s name + a) (len_of u name + n) ∙ ap (insert s.lens name) (omega (arith, after))
 
     pub grows_both : Grows u v name B b k (Ok tt) → a + b ≡ c → Joined (λ files mid. C files ≡ A files ++ B mid) → Grows s v name C c most (Ok tt)
     grows_both second sum joined = record {

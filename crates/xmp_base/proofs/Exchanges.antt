@@ -140,14 +140,14 @@ known_after s t name e known = ap (λ (m : Lens). is_some (get m name)) e ∙ kn
 pub len_after : (s t : DeskState) (name : List ℕ) → t.lens ≡ s.lens → len_of t name ≡ len_of s name
 len_after s t name e = ap (λ (m : Lens). unwrap_or (get m name) 0) e
 
--- the next bytes of a piece behind its first ones
+-- the next bytes of a piece after its first ones
 put_next : (done n : ℕ) (piece was q : List ℕ) → q ≡ take n (drop done piece) → done + n ≤ length piece → length was ≡ length piece
     → put_at (take done piece ++ drop done was) done q ≡ take (done + n) piece ++ drop (done + n) was
 put_next done n piece was q is within size =
     ap (λ (l : List ℕ). (l ++ q) ++ drop (done + length q) (take done piece ++ drop done was)) (take_at (take done piece) (drop done was) done front)
     ∙ ap (λ (l : List ℕ). (take done piece ++ l) ++ drop (done + length q) (take done piece ++ drop done was)) is
     ∙ ap (λ (l : List ℕ). l ++ drop (done + length q) (take done piece ++ drop done was)) (sym (take-add done n piece))
-    ∙ ap (λ (l : List ℕ). take (done + n) piece ++ l) behind
+    ∙ ap (λ (l : List ℕ). take (done + n) piece ++ l) after
   where
     front : length (take done piece) ≡ done
     front = length-take-le done piece (omega (arith, within))
@@ -155,8 +155,8 @@ put_next done n piece was q is within size =
     full : length q ≡ n
     full = ap length is ∙ length-take-le n (drop done piece) (omega (arith, within, length-drop done piece))
 
-    behind : drop (done + length q) (take done piece ++ drop done was) ≡ drop (done + n) was
-    behind = ap (λ (k : ℕ). drop (done + k) (take done piece ++ drop done was)) full
+    after : drop (done + length q) (take done piece ++ drop done was) ≡ drop (done + n) was
+    after = ap (λ (k : ℕ). drop (done + k) (take done piece ++ drop done was)) full
         ∙ sym (drop-drop n done (take done piece ++ drop done was)) ∙ ap (drop n) (drop_at (take done piece) (drop done was) done front) ∙ drop-drop n done was
 
 pub put_none : (s : DeskState) (name : List ℕ) (at : ℕ) (piece : List ℕ) → PutSome s s name at piece 0

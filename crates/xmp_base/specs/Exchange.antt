@@ -24,13 +24,13 @@ pub record Exchanged (s t : DeskState) (name : List ℕ) (at size : ℕ) (Now : 
   pub wrote : MovesInside name at (at + size) s.wrote t.wrote
   pub files : Told s.files (λ files. (bytes : List ℕ) → get files name ≡ Some bytes → at + size ≤ length bytes → Holding t files name at size bytes Now)
 
--- The range holds the piece. After a failure its first `done` bytes are in place, and behind them
+-- The range holds the piece. After a failure its first `done` bytes are in place, and after them
 -- what one failed write left.
 abbrev pub IsPut : Result (Unit {0}) Failed → ℕ → List ℕ → List ℕ → Type 0
 IsPut (Ok _) done piece now = now ≡ piece
 IsPut (Err _) done piece now = (done < length piece) × (take done now ≡ take done piece)
 
--- The writes follow one another up to the end, and after a failure up to a place before it. Behind
+-- The writes follow one another up to the end, and after a failure up to a place before it. After
 -- that a failed write may be recorded, which is one of all that was left.
 abbrev pub WroteOnce : Result (Unit {0}) Failed → ℕ → List ℕ → ℕ → ℕ → Option (List Moved) → Option (List Moved) → Type 0
 WroteOnce (Ok _) done name at size old new = MovedOnce name at (at + size) old new

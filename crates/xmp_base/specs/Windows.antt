@@ -51,7 +51,7 @@ pub record Grown (old new : Files) (name piece : List ℕ) : Type 0 where
   pub grown : (bytes : List ℕ) → get old name ≡ Some bytes → get new name ≡ Some (bytes ++ piece)
   pub others : OthersKeep old new name
 
--- A part of the bytes, as a failure leaves it: a prefix, and behind it at most `most` bytes that a
+-- A part of the bytes, as a failure leaves it: a prefix, and after it at most `most` bytes that a
 -- failed write left, together no longer than the bytes.
 pub record PartOf (part bytes : List ℕ) (most : ℕ) : Type 0 where
   pub whole : List ℕ

@@ -6,9 +6,7 @@ use crate::{
     Words, append, copy_range, put_inside, window,
 };
 use std::alloc::Global;
-use std::fs::Permissions;
 use std::io::{ErrorKind, Write};
-use std::os::unix::fs::PermissionsExt;
 use std::rt::Files;
 use std::test::Fail;
 use std::{fs, io};
@@ -132,19 +130,17 @@ fn reaches_real_files(rt: HostRuntime) -> Result<(), Fail> {
     Ok(())
 }
 
-/// One handle is used at one place after another, and twice at one place. A file that may only be
-/// read is read, and one that was opened for reading is written too.
+/// One handle is used at one place after another, and twice at one place. A running program is read,
+/// which nobody may write, and a file that was opened for reading is written too.
 #[test]
 fn a_handle_goes_to_its_place(rt: HostRuntime) -> Result<(), Fail> {
-    for name in ["open.bin", "locked.bin"] {
-        fs::write(&rt, name, "abcdef")?;
-    }
-    fs::set_permissions(&rt, "locked.bin", Permissions::from_mode(0o444))?;
-    let mut desk = desk_of(&rt, rt.alloc(), &["open.bin", "locked.bin"])?;
+    let running = "/proc/self/exe";
+    fs::write(&rt, "open.bin", "abcdef")?;
+    let mut desk = desk_of(&rt, rt.alloc(), &["open.bin", running])?;
     for (name, at, text) in [
-        ("locked.bin", 3, "def"),
-        ("locked.bin", 1, "bcd"),
-        ("locked.bin", 1, "bcd"),
+        (running, 1, "ELF"),
+        ("open.bin", 3, "def"),
+        ("open.bin", 1, "bcd"),
         ("open.bin", 1, "bcd"),
     ] {
         let bytes = bytes_at(rt.alloc(), &mut desk, name, at, 3);
@@ -168,7 +164,6 @@ fn a_handle_goes_to_its_place(rt: HostRuntime) -> Result<(), Fail> {
         );
     }
     fs::remove_file(&rt, "open.bin")?;
-    fs::remove_file(&rt, "locked.bin")?;
     Ok(())
 }
 

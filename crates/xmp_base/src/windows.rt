@@ -116,7 +116,7 @@ pub fn append<D: Desk>(desk: &mut D, to: &str, end: u64, piece: &[u8]) -> Result
 ///
 /// # Errors
 /// `Failed` after a failure that the desk counted. The range then begins with a part of the piece,
-/// and behind that holds what one failed write left. All other bytes are the old ones.
+/// and after that holds what one failed write left. All other bytes are the old ones.
 pub fn put_inside<D: Desk>(desk: &mut D, name: &str, at: u64, piece: &[u8]) -> Result<(), Failed>
     requires known { IsTrue (is_known (D.state desk.old) name.now) }
     requires within { at + length piece.now ≤ len_of (D.state desk.old) name.now }

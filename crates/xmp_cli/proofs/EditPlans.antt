@@ -1,5 +1,5 @@
 -- The plan for an opened file, from the text of SCRIPT, the script, the edits and what `plan` gave.
-use Rattle.std.proofs.Common.{◌≡◌, ◌≢◌, ◌∙◌, ℕ, false, List, Some, None, Ok, Err, refl, sym, ap, subst, inl, inr}
+use Rattle.std.proofs.Common.{◌≡◌, ◌≢◌, ◌∙◌, ℕ, Bool, List, Some, None, Ok, Err, refl, sym, ap, subst, inl, inr}
 use Rattle.std.specs.Prelude.{IfOk}
 use Rattle.std.specs.declared.result.Result.{Result}
 use Rattle.xmp_base.specs.Device.{DeskState, Files, Told}
@@ -60,39 +60,39 @@ edited_there source text meaning =
     followed_there (in_part (part_of source) (edits_from source text meaning.hints)) (made (part_of source) meaning.tree)
     (in_part_there (part_of source) (edits_from source text meaning.hints) (edits_from_there source text meaning.hints)) (λ script. made_there (part_of source) meaning.tree script)
 
-stop_there_by : (step : Result Edited Fault) (kept : Kept) (opened : Opened) (fault : Fault) → There step → IsStopOf step kept opened fault → fault.rule ≡ NoFile → ⊥
-stop_there_by (Ok e) kept opened fault there h rule = planned_there kept opened.joined false e fault h rule
-stop_there_by (Err f) kept opened fault there h rule =
+stop_there_by : (patch : Bool) (step : Result Edited Fault) (kept : Kept) (opened : Opened) (fault : Fault) → There step → IsStopOf patch step kept opened fault → fault.rule ≡ NoFile → ⊥
+stop_there_by patch (Ok e) kept opened fault there h rule = planned_there kept opened.joined patch e fault h rule
+stop_there_by patch (Err f) kept opened fault there h rule =
     let is : f ≡ fault = (let same : (let r : Result Plan Fault = Err fault in r) ≡ Err f = h in cc) in there (ap (λ (g : Fault). g.rule) is ∙ rule)
 
 -- What a stop of a step gives.
 
-module _ (source : Source) (text : List ℕ) (kept : Kept) (opened : Opened) where
+module _ (source : Source) (patch : Bool) (text : List ℕ) (kept : Kept) (opened : Opened) where
   -- the script is refused
-  script_stop : (end : PlaceStop) → Gives place_of (let r : Result ScriptParts PlaceStop = Err end in r) (edits_from source text opened.meaning.hints) → FromText source text kept opened (Err (stop_in end (part_of source)))
+  script_stop : (end : PlaceStop) → Gives place_of (let r : Result ScriptParts PlaceStop = Err end in r) (edits_from source text opened.meaning.hints) → FromText source patch text kept opened (Err (stop_in end (part_of source)))
   unfolding edited_from
   script_stop (places.Fault rule at) h =
-      subst (λ (step : Result ScriptParts (Rule × ℕ)). Followed (followed (in_part (part_of source) step) (made (part_of source) opened.meaning.tree)) (IsPlanned kept opened.joined false) (Err (fault_at rule (part_of source) at))) (sym h) refl
+      subst (λ (step : Result ScriptParts (Rule × ℕ)). Followed (followed (in_part (part_of source) step) (made (part_of source) opened.meaning.tree)) (IsPlanned kept opened.joined patch) (Err (fault_at rule (part_of source) at))) (sym h) refl
   script_stop places.Memory h = tt
 
   pub script_stopped : (end : PlaceStop) (part : Part) (result : FaultStop) → part ≡ part_of source → result ≡ stop_in end part → Gives place_of (let r : Result ScriptParts PlaceStop = Err end in r) (edits_from source text opened.meaning.hints)
-      → FromText source text kept opened (Err result)
+      → FromText source patch text kept opened (Err result)
   script_stopped end part result part_is is h =
-      subst (λ (x : FaultStop). FromText source text kept opened (Err x)) (sym (is ∙ ap (stop_in end) part_is)) (script_stop end h)
+      subst (λ (x : FaultStop). FromText source patch text kept opened (Err x)) (sym (is ∙ ap (stop_in end) part_is)) (script_stop end h)
 
   module _ (script : ScriptParts) (from : edits_from source text opened.meaning.hints ≡ Ok script) where
     -- an edit is refused
-    edit_stop : (end : PlaceStop) → Gives place_of (let r : Result Parts PlaceStop = Err end in r) (edits_made script.edits opened.meaning.tree) → FromText source text kept opened (Err (stop_in end (part_of source)))
+    edit_stop : (end : PlaceStop) → Gives place_of (let r : Result Parts PlaceStop = Err end in r) (edits_made script.edits opened.meaning.tree) → FromText source patch text kept opened (Err (stop_in end (part_of source)))
     unfolding edited_from
     edit_stop (places.Fault rule at) h =
-        subst (λ (step : Result ScriptParts (Rule × ℕ)). Followed (followed (in_part (part_of source) step) (made (part_of source) opened.meaning.tree)) (IsPlanned kept opened.joined false) (Err (fault_at rule (part_of source) at))) (sym from)
-        (subst (λ (step : Result Parts (Rule × ℕ)). Followed (followed (in_part (part_of source) step) (with_tree opened.meaning.tree script.hints)) (IsPlanned kept opened.joined false) (Err (fault_at rule (part_of source) at))) (sym h) refl)
+        subst (λ (step : Result ScriptParts (Rule × ℕ)). Followed (followed (in_part (part_of source) step) (made (part_of source) opened.meaning.tree)) (IsPlanned kept opened.joined patch) (Err (fault_at rule (part_of source) at))) (sym from)
+        (subst (λ (step : Result Parts (Rule × ℕ)). Followed (followed (in_part (part_of source) step) (with_tree opened.meaning.tree script.hints)) (IsPlanned kept opened.joined patch) (Err (fault_at rule (part_of source) at))) (sym h) refl)
     edit_stop places.Memory h = tt
 
     pub edit_stopped : (end : PlaceStop) (part : Part) (result : FaultStop) → part ≡ part_of source → result ≡ stop_in end part → Gives place_of (let r : Result Parts PlaceStop = Err end in r) (edits_made script.edits opened.meaning.tree)
-        → FromText source text kept opened (Err result)
+        → FromText source patch text kept opened (Err result)
     edit_stopped end part result part_is is h =
-        subst (λ (x : FaultStop). FromText source text kept opened (Err x)) (sym (is ∙ ap (stop_in end) part_is)) (edit_stop end h)
+        subst (λ (x : FaultStop). FromText source patch text kept opened (Err x)) (sym (is ∙ ap (stop_in end) part_is)) (edit_stop end h)
 
     module _ (new : Parts) (by : edits_made script.edits opened.meaning.tree ≡ Ok new) where
       edited_is : edited_from source text opened.meaning ≡ Ok (record { old = opened.meaning.tree; new = new; hints = script.hints; digest = None })
@@ -102,35 +102,36 @@ module _ (source : Source) (text : List ℕ) (kept : Kept) (opened : Opened) whe
           ∙ ap (λ (step : Result Parts (Rule × ℕ)). followed (in_part (part_of source) step) (with_tree opened.meaning.tree script.hints)) by
 
       -- the plan is made, or refused
-      plan_from : (result : Result PlannedFile FaultStop) → PlanAnswer kept opened.joined false (record { old = opened.meaning.tree; new = new; hints = script.hints; digest = None }) result
-          → IfOk result (λ _. new ≢ opened.meaning.tree → MayWrite new script.hints (whole_form new)) → FromText source text kept opened result
+      plan_from : (result : Result PlannedFile FaultStop) → PlanAnswer kept opened.joined patch (record { old = opened.meaning.tree; new = new; hints = script.hints; digest = None }) result
+          → IfOk result (λ _. new ≢ opened.meaning.tree → MayWrite new script.hints (whole_form new)) → FromText source patch text kept opened result
       plan_from (Ok p) h may = (
-        record { edited = record { old = opened.meaning.tree; new = new; hints = script.hints; digest = None }; is = edited_is; planned = h.0; written = may },
+        record { edited = record { old = opened.meaning.tree; new = new; hints = script.hints; digest = None }; is = edited_is; scripted = refl; planned = h.0; written = may },
         h.1,
       )
       plan_from (Err (faults.Fault fault)) h may =
-          subst (λ (step : Result Edited Fault). IsStopOf step kept opened fault) (sym edited_is) h
+          subst (λ (step : Result Edited Fault). IsStopOf patch step kept opened fault) (sym edited_is) h
       plan_from (Err faults.Memory) h may = tt
 
-      pub planned_from : (hints : List Hint) (result : Result PlannedFile FaultStop) → hints ≡ script.hints
-          → PlanAnswer kept opened.joined false (record { old = opened.meaning.tree; new = new; hints = hints; digest = None }) result
-          → IfOk result (λ _. new ≢ opened.meaning.tree → MayWrite new hints (whole_form new)) → FromText source text kept opened result
-      planned_from hints result is h may =
-          plan_from result (subst (λ (hs : List Hint). PlanAnswer kept opened.joined false (record { old = opened.meaning.tree; new = new; hints = hs; digest = None }) result) is h)
+      pub planned_from : (hints : List Hint) (given : Bool) (result : Result PlannedFile FaultStop) → hints ≡ script.hints → given ≡ patch
+          → PlanAnswer kept opened.joined given (record { old = opened.meaning.tree; new = new; hints = hints; digest = None }) result
+          → IfOk result (λ _. new ≢ opened.meaning.tree → MayWrite new hints (whole_form new)) → FromText source patch text kept opened result
+      planned_from hints given result is by h may =
+          plan_from result (subst (λ (hs : List Hint). PlanAnswer kept opened.joined patch (record { old = opened.meaning.tree; new = new; hints = hs; digest = None }) result) is
+          (subst (λ (b : Bool). PlanAnswer kept opened.joined b (record { old = opened.meaning.tree; new = new; hints = hints; digest = None }) result) by h))
           (subst (λ (hs : List Hint). IfOk result (λ _. new ≢ opened.meaning.tree → MayWrite new hs (whole_form new))) is may)
 
 -- With SCRIPT's text.
 
-text_refused : (source : Source) (meaning : Meaning) (text : Result (List ℕ) Fault) (kept : Kept) (opened : Opened) (fault : Fault) → text ≡ Err fault
-    → IsStopOf (followed text (λ t. edited_from source t meaning)) kept opened fault
-text_refused source meaning text kept opened fault e =
-    subst (λ (r : Result (List ℕ) Fault). IsStopOf (followed r (λ t. edited_from source t meaning)) kept opened fault) (sym e) refl
+text_refused : (source : Source) (patch : Bool) (meaning : Meaning) (text : Result (List ℕ) Fault) (kept : Kept) (opened : Opened) (fault : Fault) → text ≡ Err fault
+    → IsStopOf patch (followed text (λ t. edited_from source t meaning)) kept opened fault
+text_refused source patch meaning text kept opened fault e =
+    subst (λ (r : Result (List ℕ) Fault). IsStopOf patch (followed r (λ t. edited_from source t meaning)) kept opened fault) (sym e) refl
 
-module _ (source : Source) (s t : DeskState) (kept : Kept) (opened : Opened) where
+module _ (source : Source) (patch : Bool) (s t : DeskState) (kept : Kept) (opened : Opened) where
   stop_told : (end : FileStop) → Told s.files (λ files. Gives told_by (let r : Result (List ℕ) FileStop = Err end in r) (text_of source files))
-      → Told s.files (λ files. Answers told_by (let r : Result PlannedFile FileStop = Err end in r) (λ p. IsPlanOf (edited_of source files opened.meaning) kept opened p.plan) (IsStopOf (edited_of source files opened.meaning) kept opened))
-  stop_told stop.Absent h files e = text_refused source opened.meaning (text_of source files) kept opened no_file (h files e)
-  stop_told (stop.Fault fault) h files e = text_refused source opened.meaning (text_of source files) kept opened fault (h files e)
+      → Told s.files (λ files. Answers told_by (let r : Result PlannedFile FileStop = Err end in r) (λ p. IsPlanOf patch (edited_of source files opened.meaning) kept opened p.plan) (IsStopOf patch (edited_of source files opened.meaning) kept opened))
+  stop_told stop.Absent h files e = text_refused source patch opened.meaning (text_of source files) kept opened no_file (h files e)
+  stop_told (stop.Fault fault) h files e = text_refused source patch opened.meaning (text_of source files) kept opened fault (h files e)
   stop_told stop.Device h files e = tt
   stop_told stop.Memory h files e = tt
 
@@ -145,7 +146,7 @@ module _ (source : Source) (s t : DeskState) (kept : Kept) (opened : Opened) whe
   }
 
   -- SCRIPT gives no text
-  pub text_stopped : (end : FileStop) → TextCall source s t (Err end) → PlanCall source s t kept opened (Err end)
+  pub text_stopped : (end : FileStop) → TextCall source s t (Err end) → PlanCall source patch s t kept opened (Err end)
   text_stopped end a = record {
     reads = a.reads;
     told = stop_told end a.told;
@@ -158,25 +159,25 @@ module _ (source : Source) (s t : DeskState) (kept : Kept) (opened : Opened) whe
     edited_same : (files : Files) → s.files ≡ Some files → edited_of source files opened.meaning ≡ edited_from source text opened.meaning
     edited_same files e = ap (λ (r : Result (List ℕ) Fault). followed r (λ x. edited_from source x opened.meaning)) (a.told files e)
 
-    pub plan_done : (p : PlannedFile) → FromText source text kept opened (Ok p) → PlanCall source s t kept opened (Ok p)
+    pub plan_done : (p : PlannedFile) → FromText source patch text kept opened (Ok p) → PlanCall source patch s t kept opened (Ok p)
     plan_done p h = record {
       reads = a.reads;
-      told = λ files e. subst (λ (step : Result Edited Fault). IsPlanOf step kept opened p.plan) (sym (edited_same files e)) h.0;
+      told = λ files e. subst (λ (step : Result Edited Fault). IsPlanOf patch step kept opened p.plan) (sym (edited_same files e)) h.0;
       stopped = record { there = λ e. cc; missed = λ fault e rule. absurd (cc e); device = λ e. absurd (cc e) };
       refuses = λ fault e. absurd (cc e);
       planned = (edited_from source text opened.meaning, h.0, h.1);
     }
 
-    plan_stop : (end : FaultStop) → FromText source text kept opened (Err end) → PlanCall source s t kept opened (Err (file_stop end))
+    plan_stop : (end : FaultStop) → FromText source patch text kept opened (Err end) → PlanCall source patch s t kept opened (Err (file_stop end))
     plan_stop (faults.Fault f) h = record {
       reads = a.reads;
-      told = λ files e. subst (λ (step : Result Edited Fault). IsStopOf step kept opened f) (sym (edited_same files e)) h;
+      told = λ files e. subst (λ (step : Result Edited Fault). IsStopOf patch step kept opened f) (sym (edited_same files e)) h;
       stopped = record {
         there = λ e. cc;
-        missed = λ fault e rule. absurd (stop_there_by (edited_from source text opened.meaning) kept opened f (edited_there source text opened.meaning) h (ap (λ (g : Fault). g.rule) (same_as f fault e) ∙ rule));
+        missed = λ fault e rule. absurd (stop_there_by patch (edited_from source text opened.meaning) kept opened f (edited_there source text opened.meaning) h (ap (λ (g : Fault). g.rule) (same_as f fault e) ∙ rule));
         device = λ e. absurd (cc e);
       };
-      refuses = λ fault e. subst (IsEditRefusal source t) (same_as f fault e) (inr (record { text = text; of_source = a.text; kept = kept; opened = opened; is = h }));
+      refuses = λ fault e. subst (IsEditRefusal source patch t) (same_as f fault e) (inr (record { text = text; of_source = a.text; kept = kept; opened = opened; is = h }));
       planned = tt;
     }
       where
@@ -190,5 +191,5 @@ module _ (source : Source) (s t : DeskState) (kept : Kept) (opened : Opened) whe
       planned = tt;
     }
 
-    pub plan_stopped : (end : FaultStop) (result : FileStop) → result ≡ file_stop end → FromText source text kept opened (Err end) → PlanCall source s t kept opened (Err result)
-    plan_stopped end result is h = subst (λ (x : FileStop). PlanCall source s t kept opened (Err x)) (sym is) (plan_stop end h)
+    pub plan_stopped : (end : FaultStop) (result : FileStop) → result ≡ file_stop end → FromText source patch text kept opened (Err end) → PlanCall source patch s t kept opened (Err result)
+    plan_stopped end result is h = subst (λ (x : FileStop). PlanCall source patch s t kept opened (Err x)) (sym is) (plan_stop end h)

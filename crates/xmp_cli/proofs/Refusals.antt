@@ -22,10 +22,13 @@ use Rattle.xmp_base.specs.Device.{DeskState, len_of}
 use Rattle.xmp_values.specs.Stops.{fault_at}
 use Rattle.xmp_files.specs.declared.opening.Opened.{Opened}
 use Rattle.xmp_files.specs.Stages.{followed, Followed}
-use Rattle.xmp_files.specs.Faults.{not_built}
-use Rattle.xmp_files.specs.Keeping.{Piece, Container, Text, Segments, Kept}
-use Rattle.xmp_files.specs.Loads.{PayloadLies, IsLoadRefusal}
-use Rattle.xmp_files.specs.Opening.{Means, OpensMain, IsJoined, IsOpened, joined_in, in_main, no_meaning}
+use Rattle.rdf_forms.specs.Merging.{merged}
+use Rattle.xmp_files.specs.declared.held.Extended.{Extended}
+use Rattle.xmp_files.specs.declared.held.Extended.TheVariants as texts
+use Rattle.xmp_files.specs.Keeping.{Piece, Kept}
+use Rattle.xmp_files.specs.Loads.{PayloadLies}
+use Rattle.xmp_files.specs.Meanings.{Means, OpensMain, in_main, no_meaning}
+use Rattle.xmp_files.specs.Opening.{IsJoinedTo, IsJoined, IsOpened, alone, merged_to, with_both}
 use Rattle.xmp_files.proofs.NeverMissing.{opened_there}
 use Rattle.xmp_cli.specs.Answer.{seen}
 use Rattle.xmp_cli.specs.declared.status.Status.TheVariants.{Refused}
@@ -33,7 +36,7 @@ use Rattle.xmp_cli.specs.declared.views.View.{View}
 use Rattle.xmp_cli.specs.declared.views.View.TheVariants as views
 use Rattle.xmp_cli.specs.Commands.{Command}
 use Rattle.xmp_cli.specs.Order.{path_step, shape_text, value_text, get_text, tree_text}
-use Rattle.xmp_cli.specs.Run.{IsPacketRefusal, IsFileRefusal, IsPathRefusal, IsRefusal, Refuses}
+use Rattle.xmp_cli.specs.Run.{IsPacketRefusal, IsExtendedRefusal, too_long, gap, faulty, twice, IsFileRefusal, IsPathRefusal, IsRefusal, Refuses}
 use Rattle.xmp_cli.specs.Steps.{view_of, shows}
 
 pub same_fault : (f g : Fault) → Refused f ≡ Refused g → f ≡ g
@@ -129,18 +132,27 @@ main_refuses size None fault lies opens = absurd (let bad : Err fault ≡ Ok no_
 main_refuses size (Some piece) fault lies opens =
     read_refuses size (packet_text piece.bytes) opens.0 fault (omega (arith, lies.0, text_short piece.bytes)) opens.1 opens.2
 
--- a note of a JPEG file is refused
-in_refuses : (size : ℕ) (c : Container) (m : Meaning) (note : Option (List ℕ)) (fault : Fault) → (let e : Result Opened Fault = Err fault in e) ≡ joined_in c m note → IsFileRefusal size fault
-in_refuses size Text m note fault is = absurd (cc is)
-in_refuses size (Segments regions) m None fault is = absurd (cc is)
-in_refuses size (Segments regions) m (Some name) fault is =
-    let same : fault ≡ not_built = cc is in inr (inl (subst (λ (f : Fault). IsLoadRefusal size f.rule f) (sym same) refl))
+-- an extended text is refused as its portions and its text are
+
+merged_refuses : (text : List ℕ) (main : Meaning) (read : Result Meaning (Rule × ℕ)) (fault : Fault) → Means text read → (let e : Result Opened Fault = Err fault in e) ≡ merged_to main read → IsExtendedRefusal fault
+merged_refuses text main (Ok more) fault means is = both_refuses (merged main more) is
+  where
+    both_refuses : (both : Result Meaning ℕ) → (let e : Result Opened Fault = Err fault in e) ≡ with_both both → IsExtendedRefusal fault
+    both_refuses (Ok both) e = absurd (cc e)
+    both_refuses (Err place) e = twice place (cc e)
+merged_refuses text main (Err (rule, place)) fault means is = faulty text rule place means (cc is)
+
+extended_refuses : (extended : Option Extended) (main : Meaning) (fault : Fault) → IsJoinedTo extended main (Err fault) → IsExtendedRefusal fault
+extended_refuses None main fault is = absurd (let bad : Err fault ≡ Ok (alone main) = is in cc)
+extended_refuses (Some (texts.TooLong full)) main fault is = too_long full (cc is)
+extended_refuses (Some (texts.Gap place)) main fault is = gap place (cc is)
+extended_refuses (Some (texts.Joined text)) main fault is = merged_refuses text main is.0 fault is.1 is.2
 
 pub joined_refuses : (size : ℕ) (kept : Kept) (main : Result Meaning Fault) (fault : Fault) → PayloadLies size kept.payload → OpensMain kept.payload main
     → Followed main (IsJoined kept) (Err fault) → IsFileRefusal size fault
-joined_refuses size kept (Ok meaning) fault lies opens is = in_refuses size kept.container meaning meaning.note fault is
+joined_refuses size kept (Ok meaning) fault lies opens is = inr (inr (inr (extended_refuses kept.extended meaning fault is)))
 joined_refuses size kept (Err f) fault lies opens is =
-    inr (inr (main_refuses size kept.payload fault lies (subst (λ (g : Fault). OpensMain kept.payload (Err g)) (sym (opened_error fault f is)) opens)))
+    inr (inr (inl (main_refuses size kept.payload fault lies (subst (λ (g : Fault). OpensMain kept.payload (Err g)) (sym (opened_error fault f is)) opens))))
   where
     opened_error : (f g : Fault) → (let r : Result Opened Fault = Err f in r) ≡ Err g → f ≡ g
     opened_error f g e = cc

@@ -1,13 +1,16 @@
 -- What a command has done to the desk so far, step by step.
-use Rattle.std.proofs.Common.{◌≡◌, ℕ, List, [], ◌++◌, refl, sym, ap, ◌∙◌, arith, Some, subst, append-nil, append_assoc}
+use Rattle.std.proofs.Common.{◌≡◌, ℕ, ◌+◌, List, [], ◌++◌, refl, sym, ap, ◌∙◌, arith, Some, subst, append-nil, append_assoc}
 use Rattle.std.specs.declared.option.Option.{Option}
 use Rattle.std.specs.declared.result.Result.{Result}
 use Rattle.std.proofs.lemmas.List.Elements.{All-append, All-nil, All-weaker}
-use Rattle.xmp_base.specs.Device.{DeskState, Moved, OthersKeep}
+use Rattle.std.specs.FinMap.{get, insert}
+use Rattle.xmp_base.specs.Device.{DeskState, Lens, Moved, OthersKeep, Told}
 use Rattle.xmp_base.specs.Whole.{ReadSome}
+use Rattle.xmp_base.specs.Exchange.{Exchanged}
 use Rattle.xmp_base.specs.Windows.{IsInside}
 use Rattle.xmp_base.specs.declared.device.Failed.{Failed}
 use Rattle.xmp_base.proofs.Calls.{counts_trans}
+use Rattle.xmp_base.proofs.Names.{get-insert_other}
 use Rattle.xmp_values.specs.declared.stops.FileStop.{FileStop}
 use Rattle.xmp_files.specs.declared.held.Need.TheVariants.{Packet}
 use Rattle.xmp_files.specs.Keeping.{Kept}
@@ -95,4 +98,17 @@ touches_emit command s t plan size file out result may_read may_write spares a =
   others = λ name read write. a.others name (λ e. write (subst (MayWrite command) (sym e) may_write));
   kept = λ files told. let m = a.told files told in (m.0, m.1, λ name no. m.2 name (λ e. no (subst (MayWrite command) (sym e) may_write)));
   spared = spares;
+}
+
+-- bytes were exchanged inside FILE
+pub touches_exchange : (command : Option Command) (s t : DeskState) (file : List ℕ) (at size : ℕ) (Now : List ℕ → List ℕ → Type 0) → MayWrite command file
+    → Told s.files (λ files. (bytes : List ℕ) × (t.files ≡ Some (insert files file bytes))) → Exchanged s t file at size Now → Touches command s t
+touches_exchange command s t file at size Now may after a = record {
+  counts = a.counts;
+  reads = moved_none (MayRead command) s.reads t.reads a.reads;
+  wrote = λ wrote told. let m = a.wrote wrote told in
+      (m.0, m.1, All-weaker (IsInside file at (at + size)) (λ (x : Moved). MayWrite command x.0) (λ (x : Moved) i. subst (MayWrite command) (sym i.of_name) may) m.0 m.2);
+  others = λ name read write. ap (λ (l : Lens). get l name) a.lens;
+  kept = λ files told. let m = after files told in (insert files file m.0, m.1, λ name no. get-insert_other files file m.0 name (λ e. no (subst (MayWrite command) (sym e) may)));
+  spared = spares_none command s t a.reads;
 }

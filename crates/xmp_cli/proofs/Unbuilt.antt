@@ -7,7 +7,7 @@ use Rattle.xmp_values.specs.declared.faults.Fault.{Fault}
 use Rattle.xmp_values.specs.declared.rules.Rule.TheVariants.{NoFile, NotBuilt}
 use Rattle.xmp_files.specs.Faults.{not_built}
 use Rattle.xmp_cli.specs.declared.status.Status.TheVariants.{Refused}
-use Rattle.xmp_cli.specs.Commands.{Command, Get, Tree, Set, Apply}
+use Rattle.xmp_cli.specs.Commands.{Command, Get, Tree, Set, Apply, Patch}
 use Rattle.xmp_cli.specs.declared.commands.Command.{Command as Parsed}
 use Rattle.xmp_cli.specs.Meant.{meant}
 use Rattle.xmp_cli.specs.Answer.{IsOutcome, refused}
@@ -22,6 +22,7 @@ is_refused (Get file path) h files = absurd (h tt)
 is_refused (Tree file) h files = absurd (h tt)
 is_refused (Set file out path value) h files = absurd (h tt)
 is_refused (Apply file out script) h files = absurd (h tt)
+is_refused (Patch file script) h files = absurd (h tt)
 is_refused other h files = refl
 
 has_refusal : (command : Command) (t : DeskState) → (IsBuilt command → ⊥) → IsRefusal (Some command) t not_built
@@ -29,6 +30,7 @@ has_refusal (Get file path) t h = absurd (h tt)
 has_refusal (Tree file) t h = absurd (h tt)
 has_refusal (Set file out path value) t h = absurd (h tt)
 has_refusal (Apply file out script) t h = absurd (h tt)
+has_refusal (Patch file script) t h = absurd (h tt)
 has_refusal other t h = refl
 
 -- a run of one

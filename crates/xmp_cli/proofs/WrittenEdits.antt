@@ -1,5 +1,5 @@
 -- What a command that edits has written is read as the new tree, and keeps what its plan says.
-use Rattle.std.proofs.Common.{◌≡◌, ◌≢◌, ◌∙◌, ℕ, false, List, [], Option, Some, None, Ok, Err, refl, sym, ap, subst}
+use Rattle.std.proofs.Common.{◌≡◌, ◌≢◌, ◌∙◌, ℕ, Bool, List, [], Option, Some, None, Ok, Err, refl, sym, ap, subst}
 use Rattle.std.specs.declared.result.Result.{Result}
 use Rattle.std.specs.Option.{unwrap_or}
 use Rattle.std.specs.FinMap.{get}
@@ -55,7 +55,7 @@ text_old : (source : Source) (text : Result (List ℕ) Fault) (meaning : Meaning
 text_old source (Ok text) meaning e is = from_old source text meaning e is
 text_old source (Err fault) meaning e is = absurd (cc is)
 
-edited_old : (source : Source) (files : Files) (meaning : Meaning) (e : Edited) → edited_of source files meaning ≡ Ok e → e.old ≡ meaning.tree
+pub edited_old : (source : Source) (files : Files) (meaning : Meaning) (e : Edited) → edited_of source files meaning ≡ Ok e → e.old ≡ meaning.tree
 edited_old source files meaning e is = text_old source (text_of source files) meaning e is
 
 -- a file that was loaded is there
@@ -63,9 +63,9 @@ pub there : (file : Option (List ℕ)) (kept : Kept) → IsLoaded Packet file (O
 there None kept h = absurd (let bad : Ok kept ≡ Err no_file = h in cc)
 there (Some bytes) kept h = refl
 
-module _ (source : Source) (file : List ℕ) (files : Files) (kept : Kept) (opened : Opened) (plan : Plan) (loaded : IsLoaded Packet (get files file) (Ok kept)) (opens : IsOpened kept (Ok opened))
-    (of_run : IsPlanOf (edited_of source files opened.meaning) kept opened plan) where
-  module _ (k : Kept) (e : Edited) (n : Plan) (x : PlansFor source (get files file) files k e n) where
+module _ (source : Source) (patch : Bool) (file : List ℕ) (files : Files) (kept : Kept) (opened : Opened) (plan : Plan) (loaded : IsLoaded Packet (get files file) (Ok kept)) (opens : IsOpened kept (Ok opened))
+    (of_run : IsPlanOf patch (edited_of source files opened.meaning) kept opened plan) where
+  module _ (k : Kept) (e : Edited) (n : Plan) (x : PlansFor source patch (get files file) files k e n) where
     same_kept : k ≡ kept
     same_kept = same_ok k kept (one_loaded Packet (get files file) (Ok k) (Ok kept) x.loaded loaded)
 
@@ -77,10 +77,10 @@ module _ (source : Source) (file : List ℕ) (files : Files) (kept : Kept) (open
 
     same_plan : n ≡ plan
     same_plan =
-        let mine = subst (λ (y : Kept). IsPlanned y opened.joined false of_run.edited (Ok plan)) (sym same_kept) of_run.planned in
-        let of_opened = subst (λ (o : Opened). IsPlanned k o.joined false of_run.edited (Ok plan)) (sym same_opened) mine in
-        let of_edited = subst (λ (d : Edited). IsPlanned k x.opened.joined false d (Ok plan)) (sym same_edited) of_opened in
-        same_ok n plan (one_planned k x.opened.joined false e (Ok n) (Ok plan) x.planned of_edited)
+        let mine = subst (λ (y : Kept). IsPlanned y opened.joined patch of_run.edited (Ok plan)) (sym same_kept) of_run.planned in
+        let of_opened = subst (λ (o : Opened). IsPlanned k o.joined patch of_run.edited (Ok plan)) (sym same_opened) mine in
+        let of_edited = subst (λ (d : Edited). IsPlanned k x.opened.joined patch d (Ok plan)) (sym same_edited) of_opened in
+        same_ok n plan (one_planned k x.opened.joined patch e (Ok n) (Ok plan) x.planned of_edited)
 
     may : e.new ≢ e.old → MayWrite e.new e.hints (whole_form e.new)
     may = subst (λ (d : Edited). d.new ≢ d.old → MayWrite d.new d.hints (whole_form d.new)) (sym same_edited) of_run.written
@@ -89,14 +89,14 @@ module _ (source : Source) (file : List ℕ) (files : Files) (kept : Kept) (open
     old = bytes_of files file
 
     k_is : k ≡ sidecar Packet (bytes_of files file)
-    k_is = (planned_sidecar Packet (get files file) k x.opened.joined false e n x.loaded x.planned).is
+    k_is = (planned_sidecar Packet (get files file) k x.opened.joined patch e n x.loaded x.planned).is
 
     holds : HoldsTree (Some (bytes_of files file)) e.old
     holds = subst (λ (f : Option (List ℕ)). HoldsTree f e.old) (there (get files file) k x.loaded) (x.opened, (Ok k, x.loaded, x.opens), sym (edited_old source files x.opened.meaning e x.edits))
 
     good : HoldsTree (Some (planned_file (bytes_of files file) n)) e.new × Frame (sidecar Packet (bytes_of files file)) n (bytes_of files file) (planned_file (bytes_of files file) n)
-    good = sidecar_written Packet (bytes_of files file) x.opened.joined false e n (subst (λ (y : Kept). IsPlanned y x.opened.joined false e (Ok n)) k_is x.planned) holds
-        (planned_sidecar Packet (get files file) k x.opened.joined false e n x.loaded x.planned).short may
+    good = sidecar_written Packet (bytes_of files file) x.opened.joined patch e n (subst (λ (y : Kept). IsPlanned y x.opened.joined patch e (Ok n)) k_is x.planned) holds
+        (planned_sidecar Packet (get files file) k x.opened.joined patch e n x.loaded x.planned).short may
 
     framed : (before after : List ℕ) → bytes_of files file ≡ before → planned_file (bytes_of files file) n ≡ after → Frame k n before after
     framed before after b a =

@@ -48,6 +48,7 @@ IsBuilt (Get file path) = Unit {0}
 IsBuilt (Tree file) = Unit {0}
 IsBuilt (Set file out path value) = Unit {0}
 IsBuilt (Apply file out script) = Unit {0}
+IsBuilt (Patch file script) = Unit {0}
 IsBuilt other = ⊥
 
 -- FILE passes the steps before memory is wanted: it is there, within the limit of a file, and of a kind.

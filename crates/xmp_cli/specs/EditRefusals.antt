@@ -1,5 +1,5 @@
 -- The refusals of edits, whatever the devices tell.
-use Rattle.std.specs.Prelude.{◌≡◌, ◌⊎◌, ℕ, ◌<◌, ◌≤◌, false, List, [], length, Result, Err}
+use Rattle.std.specs.Prelude.{◌≡◌, ◌⊎◌, ℕ, ◌<◌, ◌≤◌, Bool, List, [], length, Result, Err}
 use Rattle.xmp_base.specs.Device.{DeskState, len_of}
 use Rattle.xmp_values.specs.declared.faults.Fault.{Fault}
 use Rattle.xmp_files.specs.declared.opening.Opened.{Opened}
@@ -20,16 +20,16 @@ IsTextOf (Given path value) t text = text ≡ []
 IsTextOf (Lines script) t text = (length text ≡ len_of t script) × (length text ≤ script_limit)
 
 -- the edits are refused, or the plan is
-abbrev pub IsStopOf : Result Edited Fault → Kept → Opened → Fault → Type 0
-IsStopOf step kept opened fault = Followed step (IsPlanned kept opened.joined false) (Err fault)
+abbrev pub IsStopOf : Bool → Result Edited Fault → Kept → Opened → Fault → Type 0
+IsStopOf patch step kept opened fault = Followed step (IsPlanned kept opened.joined patch) (Err fault)
 
 -- the refusals of edits and of a plan: of SCRIPT's file, or those that some text of SCRIPT has for some file
-pub record IsPlanRefusal (source : Source) (t : DeskState) (fault : Fault) : Type 0 where
+pub record IsPlanRefusal (source : Source) (patch : Bool) (t : DeskState) (fault : Fault) : Type 0 where
   pub text : List ℕ
   pub of_source : IsTextOf source t text
   pub kept : Kept
   pub opened : Opened
-  pub is : IsStopOf (edited_from source text opened.meaning) kept opened fault
+  pub is : IsStopOf patch (edited_from source text opened.meaning) kept opened fault
 
-abbrev pub IsEditRefusal : Source → DeskState → Fault → Type 0
-IsEditRefusal source t fault = IsTextRefusal source t fault ⊎ IsPlanRefusal source t fault
+abbrev pub IsEditRefusal : Source → Bool → DeskState → Fault → Type 0
+IsEditRefusal source patch t fault = IsTextRefusal source t fault ⊎ IsPlanRefusal source patch t fault

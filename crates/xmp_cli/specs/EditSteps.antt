@@ -1,5 +1,5 @@
 -- What a step of a command that edits gives, beside the definitions. Memory may always be wanted, and a device may fail.
-use Rattle.std.specs.Prelude.{◌≡◌, ◌≢◌, ◌⊎◌, ℕ, false, List, IfOk, Option, Some, None, Result, Ok, Err}
+use Rattle.std.specs.Prelude.{◌≡◌, ◌≢◌, ◌⊎◌, ℕ, Bool, true, false, List, IfOk, Option, Some, None, Result, Ok, Err}
 use Rattle.xmp_base.specs.Device.{DeskState, SinkState, Told, Rose, OthersKeep}
 use Rattle.xmp_base.specs.declared.device.Failed.{Failed}
 use Rattle.xmp_base.specs.Whole.{ReadSome}
@@ -17,24 +17,45 @@ use Rattle.xmp_files.specs.Planning.{Edited, Plan}
 use Rattle.xmp_files.specs.Plans.{IsPlanned, whole_form}
 use Rattle.xmp_files.specs.Planneds.{PlannedFile}
 use Rattle.xmp_files.specs.Emitting.{EmitCall}
-use Rattle.xmp_cli.specs.Commands.{Command, Set as SetOf, Apply}
+use Rattle.xmp_files.specs.Patching.{PatchCall}
+use Rattle.xmp_cli.specs.Answer.{Change, put_out, exchange_in}
+use Rattle.xmp_cli.specs.Commands.{Command, Set as SetOf, Apply as ApplyOf, Patch as PatchOf}
 use Rattle.xmp_cli.specs.Edits.{Source, Given, Lines, text_of, edited_from, edited_of}
 use Rattle.xmp_cli.specs.Reports.{report}
 use Rattle.xmp_cli.specs.Sending.{SendAll}
 use Rattle.xmp_cli.specs.EditRefusals.{IsTextRefusal, IsTextOf, IsStopOf, IsEditRefusal}
 use Rattle.xmp_cli.specs.declared.edits.Edits.{Edits}
-use Rattle.xmp_cli.specs.declared.edits.Edits.TheVariants.{Set, Script}
+use Rattle.xmp_cli.specs.declared.edits.Edits.TheVariants.{Set, Apply, Patch}
 use Rattle.xmp_cli.specs.declared.status.Status.{Status}
 use Rattle.xmp_cli.specs.declared.status.Status.TheVariants.{Refused, Device, Memory}
 
 -- where the edits of a value of the code stand, and the command that it makes
 abbrev pub source : Edits → Source
-source (Set path value) = Given path.now value.now
-source (Script name) = Lines name.now
+source (Set out path value) = Given path.now value.now
+source (Apply out script) = Lines script.now
+source (Patch script) = Lines script.now
 
-abbrev pub command_of : List ℕ → List ℕ → Edits → Command
-command_of file out (Set path value) = SetOf file out path.now value.now
-command_of file out (Script name) = Apply file out name.now
+abbrev pub command_of : List ℕ → Edits → Command
+command_of file (Set out path value) = SetOf file out.now path.now value.now
+command_of file (Apply out script) = ApplyOf file out.now script.now
+command_of file (Patch script) = PatchOf file script.now
+
+-- whether FILE may be changed inside its packet alone
+abbrev pub is_inside : Edits → Bool
+is_inside (Set out path value) = false
+is_inside (Apply out script) = false
+is_inside (Patch script) = true
+
+-- the change that is made of a plan
+abbrev pub change_of : List ℕ → Edits → List ℕ → Plan → Option Change
+change_of file (Set out path value) = put_out out.now
+change_of file (Apply out script) = put_out out.now
+change_of file (Patch script) = exchange_in file
+
+-- FILE isn't SCRIPT
+abbrev pub IsApart : List ℕ → Source → Type 0
+IsApart file (Given path value) = Unit {0}
+IsApart file (Lines script) = file ≢ script
 
 -- the fault that a stop tells; none where memory or a device failed
 abbrev pub told_by : FileStop → Option Fault
@@ -69,30 +90,42 @@ pub record TextCall (source : Source) (s t : DeskState) (result : Result (List �
   pub refuses : (fault : Fault) → result ≡ Err (stop.Fault fault) → IsTextRefusal source t fault
   pub text : IfOk result (IsTextOf source t)
 
--- A plan for an opened file, and the edit that it is for. The text of a tree that changes is one that is read back.
-pub record IsPlanOf (step : Result Edited Fault) (kept : Kept) (opened : Opened) (plan : Plan) : Type 0 where
+-- A plan for an opened file, and the edit that it is for, which renews no digest. The text of a tree that changes is one that is read
+-- back.
+pub record IsPlanOf (patch : Bool) (step : Result Edited Fault) (kept : Kept) (opened : Opened) (plan : Plan) : Type 0 where
   pub edited : Edited
   pub is : step ≡ Ok edited
-  pub planned : IsPlanned kept opened.joined false edited (Ok plan)
+  pub scripted : edited.digest ≡ None
+  pub planned : IsPlanned kept opened.joined patch edited (Ok plan)
   pub written : edited.new ≢ edited.old → MayWrite edited.new edited.hints (whole_form edited.new)
 
 -- what the edits of a text make of an opened file
-abbrev pub FromText : Source → List ℕ → Kept → Opened → Result PlannedFile FaultStop → Type 0
-FromText source text kept opened result =
-    Answers fault_of result (λ p. IsPlanOf (edited_from source text opened.meaning) kept opened p.plan × (p.size ≡ kept.size)) (IsStopOf (edited_from source text opened.meaning) kept opened)
+abbrev pub FromText : Source → Bool → List ℕ → Kept → Opened → Result PlannedFile FaultStop → Type 0
+FromText source patch text kept opened result =
+    Answers fault_of result (λ p. IsPlanOf patch (edited_from source text opened.meaning) kept opened p.plan × (p.size ≡ kept.size)) (IsStopOf patch (edited_from source text opened.meaning) kept opened)
 
 -- The plan for an opened file after the edits of a source.
-pub record PlanCall (source : Source) (s t : DeskState) (kept : Kept) (opened : Opened) (result : Result PlannedFile FileStop) : Type 0 where
+pub record PlanCall (source : Source) (patch : Bool) (s t : DeskState) (kept : Kept) (opened : Opened) (result : Result PlannedFile FileStop) : Type 0 where
   pub reads : ReadsSource source s t
-  pub told : Told s.files (λ files. Answers told_by result (λ p. IsPlanOf (edited_of source files opened.meaning) kept opened p.plan) (IsStopOf (edited_of source files opened.meaning) kept opened))
+  pub told : Told s.files (λ files. Answers told_by result (λ p. IsPlanOf patch (edited_of source files opened.meaning) kept opened p.plan) (IsStopOf patch (edited_of source files opened.meaning) kept opened))
   pub stopped : Stopped s t result
-  pub refuses : (fault : Fault) → result ≡ Err (stop.Fault fault) → IsEditRefusal source t fault
+  pub refuses : (fault : Fault) → result ≡ Err (stop.Fault fault) → IsEditRefusal source patch t fault
   -- the plan is one for the file, whatever the desk tells
-  pub planned : IfOk result (λ p. (step : Result Edited Fault) × IsPlanOf step kept opened p.plan × (p.size ≡ kept.size))
+  pub planned : IfOk result (λ p. (step : Result Edited Fault) × IsPlanOf patch step kept opened p.plan × (p.size ≡ kept.size))
 
--- The file of a plan was written, and then its report sent; or the first of both failed.
-abbrev pub WroteOut : (s t : DeskState) (o p : SinkState) (size : ℕ) (planned : PlannedFile) (file out : List ℕ) → Result (Unit {0}) Failed → Type 0
-WroteOut s t o p size planned file out (Ok unit) =
-    EmitCall s t planned.plan size file out (Ok unit) × SendAll o p (report planned.size planned.plan) (Ok unit)
-WroteOut s t o p size planned file out (Err failed) =
-    (EmitCall s t planned.plan size file out (Err failed) × (p ≡ o)) ⊎ (EmitCall s t planned.plan size file out (Ok tt) × SendAll o p (report planned.size planned.plan) (Err failed))
+-- a plan for an edit that renews no digest
+abbrev pub IsScriptPlan : Kept → Bool → Plan → Type 0
+IsScriptPlan kept patch plan = (joined : Bool) × (edited : Edited) × (edited.digest ≡ None) × IsPlanned kept joined patch edited (Ok plan)
+
+-- OUT was written, or the packet exchanged inside FILE
+abbrev pub Placed : DeskState → DeskState → Kept → Plan → List ℕ → Edits → Result (Unit {0}) Failed → Type 0
+Placed s t kept plan file (Set out path value) result = EmitCall s t plan kept.size file out.now result
+Placed s t kept plan file (Apply out script) result = EmitCall s t plan kept.size file out.now result
+Placed s t kept plan file (Patch script) result = PatchCall s t file kept.payload plan result
+
+-- The change of a plan was made, and then its report sent; or the first of both failed.
+abbrev pub Finished : (s t : DeskState) (o p : SinkState) (kept : Kept) (planned : PlannedFile) (file : List ℕ) (edits : Edits) → Result (Unit {0}) Failed → Type 0
+Finished s t o p kept planned file edits (Ok unit) =
+    Placed s t kept planned.plan file edits (Ok unit) × SendAll o p (report planned.size planned.plan) (Ok unit)
+Finished s t o p kept planned file edits (Err failed) =
+    (Placed s t kept planned.plan file edits (Err failed) × (p ≡ o)) ⊎ (Placed s t kept planned.plan file edits (Ok tt) × SendAll o p (report planned.size planned.plan) (Err failed))

@@ -1,10 +1,11 @@
-//! `set FILE OUT PATH VALUE` and `apply FILE OUT SCRIPT`: a file's tree is edited, and OUT written.
-ghost use Rattle.std.specs.Prelude.{Ok, Some};
+//! `set FILE OUT PATH VALUE`, `apply FILE OUT SCRIPT` and `patch FILE SCRIPT`: a file's tree is edited, and OUT
+//! written, or FILE changed inside its packet.
+ghost use Rattle.std.specs.Prelude.{◌≡◌, Ok, Some};
 ghost use Rattle.std.specs.FinMap.{get};
 ghost use Rattle.xmp_base.specs.Device.{Told};
 ghost use Rattle.xmp_files.specs.Loading.{IsLoaded};
-ghost use Rattle.xmp_files.specs.Emitting.{IsPlanFor};
-ghost use Rattle.xmp_cli.specs.EditSteps.{command_of, WroteOut};
+ghost use Rattle.xmp_files.specs.Loads.{IsOfSize};
+ghost use Rattle.xmp_cli.specs.EditSteps.{source, command_of, is_inside, IsApart, IsScriptPlan, Placed, Finished};
 ghost use Rattle.xmp_cli.specs.Run.{RunCall, Refuses};
 
 use crate::edits::{Edits, plan_of};
@@ -14,37 +15,59 @@ use crate::sending::send;
 use crate::status::Status;
 use std::alloc::Global;
 use xmp_base::{Desk, Failed, Sink};
-use xmp_files::{Held, Need, OpenStop, Planned, emit, load, read_file};
+use xmp_files::{Held, Need, OpenStop, Planned, emit, load, patch, read_file};
 
-/// Writes the file of a plan, and then sends the report.
-fn write<D: Desk, O: Sink>(
+/// Writes OUT, or exchanges the packet of the file.
+fn place<D: Desk>(
+    desk: &mut D,
+    held: &Held,
+    planned: &Planned,
+    file: &str,
+    edits: Edits<'_>,
+) -> Result<(), Failed>
+    requires loaded { Told (D.state desk.old).files (λ files. IsLoaded held.now.need (get files file.now) (Ok held.now)) }
+    requires known { get (D.state desk.old).lens file.now ≡ Some held.now.size }
+    requires lies { IsOfSize held.now.size held.now }
+    requires planned { IsScriptPlan held.now (is_inside edits) planned.now.plan }
+    ensures call { Placed (D.state desk.old) (D.state desk.new) held.now planned.now.plan file.now edits.entry result }
+{
+    match edits {
+        Edits::Set { out, .. } | Edits::Apply { out, .. } => emit(desk, held, planned, file, out),
+        Edits::Patch { .. } => patch(desk, held, planned, file),
+    }
+}
+
+/// Makes the change of a plan, and then sends the report.
+fn finish<D: Desk, O: Sink>(
     desk: &mut D,
     out: &mut O,
     held: &Held,
     planned: &Planned,
     file: &str,
-    to: &str,
+    edits: Edits<'_>,
 ) -> Result<(), Failed>
     requires loaded { Told (D.state desk.old).files (λ files. IsLoaded held.now.need (get files file.now) (Ok held.now)) }
-    requires planned { IsPlanFor held.now planned.now.plan }
-    ensures call { WroteOut (D.state desk.old) (D.state desk.new) (O.state out.old) (O.state out.new) held.now.size planned.now file.now to.now result }
+    requires known { get (D.state desk.old).lens file.now ≡ Some held.now.size }
+    requires lies { IsOfSize held.now.size held.now }
+    requires planned { IsScriptPlan held.now (is_inside edits) planned.now.plan }
+    ensures call { Finished (D.state desk.old) (D.state desk.new) (O.state out.old) (O.state out.new) held.now planned.now file.now edits.entry result }
 {
     let report = report_of(planned);
-    emit(desk, held, planned, file, to)?;
+    place(desk, held, planned, file, edits)?;
     send(out, report.as_str().as_bytes())
 }
 
-/// Writes the file `to` with the edits of `file`.
+/// Makes the edits of `file`, in OUT or inside its packet.
 pub fn edit<D: Desk, O: Sink>(
     alloc: Global,
     desk: &mut D,
     out: &mut O,
     file: &str,
-    to: &str,
     edits: Edits<'_>,
 ) -> Status
-    ensures call { RunCall (Some (command_of file.now to.now edits.entry)) (D.state desk.old) (D.state desk.new) (O.state out.old) (O.state out.new) result }
-    ensures refuses { Refuses (Some (command_of file.now to.now edits.entry)) (D.state desk.new) result }
+    requires apart { IsApart file.now (source edits) }
+    ensures call { RunCall (Some (command_of file.now edits.entry)) (D.state desk.old) (D.state desk.new) (O.state out.old) (O.state out.new) result }
+    ensures refuses { Refuses (Some (command_of file.now edits.entry)) (D.state desk.new) result }
 {
     let held = match load(alloc, desk, file, Need::Packet) {
         Ok(held) => held,
@@ -59,7 +82,7 @@ pub fn edit<D: Desk, O: Sink>(
         Ok(planned) => planned,
         Err(stop) => return stopped(stop),
     };
-    match write(desk, out, &held, &planned, file, to) {
+    match finish(desk, out, &held, &planned, file, edits) {
         Ok(()) => Status::Done,
         Err(Failed) => Status::Device,
     }

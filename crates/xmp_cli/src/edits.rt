@@ -1,9 +1,9 @@
-//! The edits of `set` and `apply`: from the words and SCRIPT to the plan for a file.
+//! The edits of `set`, `apply` and `patch`: from the words and SCRIPT to the plan for a file.
 ghost use Rattle.std.specs.Prelude.{◌≡◌};
 ghost use Rattle.xmp_values.specs.Stops.{place_of, Gives};
 ghost use Rattle.xmp_edit.specs.Scripts.{edits_made};
 ghost use Rattle.xmp_cli.specs.Edits.{edits_from, part_of};
-ghost use Rattle.xmp_cli.specs.EditSteps.{source, TextCall, FromText, PlanCall};
+ghost use Rattle.xmp_cli.specs.EditSteps.{source, is_inside, TextCall, FromText, PlanCall};
 
 use crate::faults::{no_script, over_script};
 use std::alloc::Global;
@@ -14,13 +14,24 @@ use xmp_rdf::Meaning;
 use xmp_tree::{Tree, copy};
 use xmp_values::{Bytes, FaultStop, FileStop, Part, PlaceStop};
 
-/// What is edited.
+/// What is edited, and where it is written.
 #[derive(Clone, Copy, Debug, PartialEq, Eq)]
 pub enum Edits<'w> {
-    /// The text at a path becomes this value.
-    Set { path: &'w str, value: &'w str },
-    /// The lines of SCRIPT.
-    Script(&'w str),
+    /// The text at a path becomes this value, in OUT.
+    Set {
+        out: &'w str,
+        path: &'w str,
+        value: &'w str,
+    },
+    /// The lines of SCRIPT are made in OUT.
+    Apply {
+        out: &'w str,
+        script: &'w str,
+    },
+    /// The lines of SCRIPT are made inside the packet of FILE.
+    Patch {
+        script: &'w str,
+    },
 }
 
 /// The most bytes of SCRIPT.
@@ -32,7 +43,12 @@ fn script_text<D: Desk>(alloc: Global, desk: &mut D, edits: Edits<'_>) -> Result
 {
     match edits {
         Edits::Set { .. } => Ok(Bytes::new(alloc)),
-        Edits::Script(name) => match read_all(alloc, desk, name, SCRIPT_LIMIT) {
+        Edits::Apply { script, .. } | Edits::Patch { script } => match read_all(
+            alloc,
+            desk,
+            script,
+            SCRIPT_LIMIT,
+        ) {
             Ok(bytes) => Ok(bytes),
             Err(ReadStop::Absent) => Err(FileStop::Fault(no_script())),
             Err(ReadStop::TooLarge(size)) => Err(FileStop::Fault(over_script(size))),
@@ -48,7 +64,17 @@ fn part_of(edits: Edits<'_>) -> Part
 {
     match edits {
         Edits::Set { .. } => Part::Words,
-        Edits::Script(_) => Part::Script,
+        Edits::Apply { .. } | Edits::Patch { .. } => Part::Script,
+    }
+}
+
+/// Whether FILE may be changed inside its packet alone.
+fn is_inside(edits: Edits<'_>) -> bool
+    ensures { result ≡ is_inside edits.entry }
+{
+    match edits {
+        Edits::Set { .. } | Edits::Apply { .. } => false,
+        Edits::Patch { .. } => true,
     }
 }
 
@@ -62,10 +88,10 @@ fn script_of(
     ensures { Gives place_of result (edits_from (source edits.entry) text.now meaning.now.hints) }
 {
     match edits {
-        Edits::Set { path, value } => {
+        Edits::Set { path, value, .. } => {
             one_set(alloc, path.as_bytes(), value.as_bytes(), &meaning.hints)
         }
-        Edits::Script(_) => Script::read(alloc, text, &meaning.hints),
+        Edits::Apply { .. } | Edits::Patch { .. } => Script::read(alloc, text, &meaning.hints),
     }
 }
 
@@ -85,7 +111,7 @@ fn plan_of_text(
     text: &[u8],
     edits: Edits<'_>,
 ) -> Result<Planned, FaultStop>
-    ensures { FromText (source edits.entry) text.now held.now opened.now result }
+    ensures { FromText (source edits.entry) (is_inside edits.entry) text.now held.now opened.now result }
 {
     let part = part_of(edits);
     let script = match script_of(alloc, text, &opened.meaning, edits) {
@@ -93,7 +119,7 @@ fn plan_of_text(
         Err(stop) => return Err(stop.within(part)),
     };
     match edited(alloc, &opened.meaning, &script) {
-        Ok(tree) => plan(alloc, held, opened, &tree, script.hints(), false),
+        Ok(tree) => plan(alloc, held, opened, &tree, script.hints(), is_inside(edits)),
         Err(stop) => Err(stop.within(part)),
     }
 }
@@ -106,7 +132,7 @@ pub fn plan_of<D: Desk>(
     opened: &Opened<'_>,
     edits: Edits<'_>,
 ) -> Result<Planned, FileStop>
-    ensures call { PlanCall (source edits.entry) (D.state desk.old) (D.state desk.new) held.now opened.now result }
+    ensures call { PlanCall (source edits.entry) (is_inside edits.entry) (D.state desk.old) (D.state desk.new) held.now opened.now result }
 {
     let text = script_text(alloc, desk, edits)?;
     match plan_of_text(alloc, held, opened, text.as_slice(), edits) {

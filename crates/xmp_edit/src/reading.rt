@@ -39,18 +39,17 @@ impl<'s> Model for Reading<'s> {
 }
 
 impl<'s> Reading<'s> {
-    /// Nothing is read yet. It takes no memory.
-    pub fn of(alloc: Global, hints: &'s Hints) -> Reading<'s>
-        ensures { result ≡ beginning hints.now }
+    /// Nothing is read yet.
+    pub fn of(alloc: Global, hints: &'s Hints) -> Result<Reading<'s>, Memory>
+        ensures { IfOk result (λ r. r ≡ beginning hints.now) }
     {
-        Reading {
-            spaces: Namespaces::of(alloc, hints),
-            edits: Sequence::new(alloc),
-        }
+        let spaces = Namespaces::of(alloc, hints)?;
+        let edits = Sequence::new(alloc);
+        Ok(Reading { spaces, edits })
     }
 
     /// What a line gives is added.
-    fn taken(self, given: Given) -> Result<Reading<'s>, Memory>
+    fn taken(self, alloc: Global, given: Given) -> Result<Reading<'s>, Memory>
         requires { IsWell given }
         ensures { IfOk result (λ r. r ≡ taken self.entry given) }
     {
@@ -58,8 +57,7 @@ impl<'s> Reading<'s> {
         match given {
             Given::Nothing => Ok(Reading { spaces, edits }),
             Given::Bound(line) => {
-                let mut spaces = spaces;
-                spaces.bind(line)?;
+                let spaces = spaces.bound(alloc, line)?;
                 Ok(Reading { spaces, edits })
             }
             Given::Made(edit) => {
@@ -76,7 +74,7 @@ impl<'s> Reading<'s> {
     {
         let line = line_of(alloc, without_cr(text))?;
         let given = given(alloc, &self.spaces, number, line)?;
-        let reading = self.taken(given)?;
+        let reading = self.taken(alloc, given)?;
         Ok(reading)
     }
 

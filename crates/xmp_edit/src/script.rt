@@ -79,7 +79,8 @@ fn finished(alloc: Global, hints: &Hints, reading: Reading<'_>) -> Result<Script
 fn read_text(alloc: Global, bytes: &[u8], hints: &Hints) -> Result<Script, PlaceStop>
     ensures { Gives place_of result (finished hints.now (lines_read (lines_of bytes.now) 1 (beginning hints.now))) }
 {
-    match Reading::of(alloc, hints).lines_read(alloc, bytes) {
+    let begun = Reading::of(alloc, hints)?;
+    match begun.lines_read(alloc, bytes) {
         Ok(reading) => Ok(finished(alloc, hints, reading)?),
         Err(stop) => Err(stop),
     }
@@ -100,8 +101,8 @@ fn word_of(rule: Rule) -> u64
 pub fn one_set(alloc: Global, path: &[u8], value: &[u8], hints: &Hints) -> Result<Script, PlaceStop>
     ensures { Gives place_of result (one_set_of hints.now path.now value.now) }
 {
-    let text = Text::own(Bytes::from_slice(alloc, value)?);
-    let spaces = Namespaces::of(alloc, hints);
+    let text = Text::own(alloc, Bytes::from_slice(alloc, value)?)?;
+    let spaces = Namespaces::of(alloc, hints)?;
     match edit_of(alloc, &spaces, 3, path, &None, Action::SetText(text)) {
         Ok(edit) => {
             let mut edits = Sequence::new(alloc);

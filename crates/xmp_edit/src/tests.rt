@@ -1,15 +1,15 @@
 use super::*;
 use std::alloc::Global;
 use std::test::Fail;
-use xmp_tree::{Kind, Shape, Tree, Value, copy, empty, equal};
-use xmp_values::{Hints, Memory, PlaceStop};
+use xmp_tree::{Kind, Shape, Tree, Value, empty, equal};
+use xmp_values::{Hints, PlaceStop};
 
-/// The tree that a script makes of another, with no hints.
-fn edited<'p>(alloc: Global, tree: Tree<'p>, script: &str) -> Result<Tree<'p>, PlaceStop> {
+/// What a script makes of a tree whose `dc:format` is `image/jpeg`.
+fn made(alloc: Global, script: &str) -> Result<Tree<'static>, PlaceStop> {
     let hints = Hints::new(alloc);
+    let first = Script::read(alloc, b"set dc:format image/jpeg", &hints)?;
     let script = Script::read(alloc, script.as_bytes(), &hints)?;
-    let tree = apply(tree, &script)?;
-    Ok(tree)
+    apply(apply(empty(alloc), &first)?, &script)
 }
 
 fn kind_name(kind: Kind) -> &'static str {
@@ -20,160 +20,171 @@ fn kind_name(kind: Kind) -> &'static str {
     }
 }
 
-/// Whether a value is of the kind, with the text or the number of parts.
-fn is_value(value: &Value<'_>, kind: &str, rest: &str) -> bool {
+/// Whether a value is of the kind, and a text or a URI is this one.
+fn is_value(value: &Value<'_>, kind: &str, text: &str) -> bool {
     match &value.shape {
-        Shape::Simple(text) => kind == "text" && text.bytes() == rest.as_bytes(),
-        Shape::Uri(text) => kind == "uri" && text.bytes() == rest.as_bytes(),
-        Shape::Struct(fields) => {
-            kind == "struct" && rest.parse::<usize>() == Ok(fields.as_slice().len())
-        }
-        Shape::Array(array, items) => {
-            kind == kind_name(*array) && rest.parse::<usize>() == Ok(items.as_slice().len())
-        }
+        Shape::Simple(simple) => kind == "text" && simple.bytes() == text.as_bytes(),
+        Shape::Uri(uri) => kind == "uri" && uri.bytes() == text.as_bytes(),
+        Shape::Struct(_) => kind == "struct",
+        Shape::Array(array, _) => kind == kind_name(*array),
     }
 }
 
-/// Whether what stands at a path is as a row says: `PATH KIND REST`, or `PATH none`.
-fn is_shown(alloc: Global, tree: &Tree<'_>, row: &str) -> bool {
-    let (path, rest) = row.split_once(' ').unwrap_or((row, ""));
-    let Ok(path) = xmp_paths::Path::read(alloc, path.as_bytes(), &Hints::new(alloc)) else {
-        return false;
-    };
-    match xmp_paths::find(tree, &path) {
-        Some(value) => {
-            let (kind, rest) = rest.split_once(' ').unwrap_or((rest, ""));
-            is_value(value, kind, rest)
-        }
-        None => rest == "none",
+/// Whether such a value is at a path; `none` where nothing is.
+fn is_at(alloc: Global, tree: &Tree<'_>, path: &str, kind: &str, text: &str) -> bool {
+    match Path::read(alloc, path.as_bytes(), &Hints::new(alloc)) {
+        Ok(path) => match find(tree, &path) {
+            Some(value) => is_value(value, kind, text),
+            None => kind == "none",
+        },
+        Err(_) => false,
     }
 }
 
-/// Scripts, each with what then stands at paths. Each begins with a tree whose `dc:format` is `image/jpeg`.
-const MADE: &str = "\
-array dc:subject bag;append dc:subject a;insert dc:subject 1 b;qualify dc:subject[1] xmp:Label q;\
-delete dc:subject[2]|dc:subject bag 1;dc:subject[1] text b;dc:subject[1]/?xmp:Label text q\n\
-set dc:subject x;ns demo http://e/;set demo:a y|dc:subject text x;dc:format text image/jpeg\n\
-setlang dc:title en Sea;setlang dc:title de Meer;setlang dc:title fr Mer;\
-setlang dc:title x-default Sea|dc:title alt 4;dc:title[1] text Sea;dc:title[1]/?xml:lang text x-default;\
-dc:title[2]/?xml:lang text en;dc:title[4] text Mer\n\
-setlang dc:title en Sea;qualify dc:title[1] xmp:Label q;setlang dc:title EN See|\
-dc:title alt 1;dc:title[1] text See;dc:title[1]/?xml:lang text en;dc:title[1]/?xmp:Label text q\n\
-struct dc:creator;set dc:creator/dc:format v;seturi dc:creator/?rdf:type http://ns.adobe.com/xap/1.0/Person;\
-set dc:format x|dc:creator struct 1;dc:creator/?rdf:type uri http://ns.adobe.com/xap/1.0/Person;\
-dc:creator/dc:format text v;dc:format text x\n\
-qualify dc:format xmp:Label q;qualify dc:format xml:lang en;seturi dc:format u;set dc:format x|\
-dc:format text x;dc:format/?xmp:Label text q;dc:format/?xml:lang text en\n\
-array dc:a seq;set dc:a[1] x;set dc:a[2] y;array dc:a seq;insert dc:a 3 z|\
-dc:a seq 3;dc:a[2] text y;dc:a[3] text z\n\
-delete dc:format|dc:format none\n\
-set dc:format |dc:format text ";
-
-/// The first tree.
-fn first<'p>(alloc: Global) -> Result<Tree<'p>, PlaceStop> {
-    edited(alloc, empty(alloc), "set dc:format image/jpeg")
-}
-
-/// The lines of a row's script, which `;` parts.
-fn lines(alloc: Global, row: &str) -> Result<String, Memory> {
-    let mut text = String::new(alloc);
-    for line in row.split(';') {
-        text.push_str(line)?;
-        text.push_str("\r\n")?;
+/// Whether a script makes these values: paths, kinds and texts.
+fn makes(alloc: Global, script: &str, values: &[(&str, &str, &str)]) -> bool {
+    match made(alloc, script) {
+        Ok(tree) => values
+            .iter()
+            .all(|(path, kind, text)| is_at(alloc, &tree, path, kind, text)),
+        Err(_) => false,
     }
-    Ok(text)
-}
-
-fn is_made(alloc: Global, row: &str) -> Result<bool, PlaceStop> {
-    let (script, wanted) = row.split_once('|').unwrap_or((row, ""));
-    let tree = edited(alloc, first(alloc)?, lines(alloc, script)?.as_str())?;
-    for value in wanted.split(';') {
-        if !is_shown(alloc, &tree, value) {
-            return Ok(false);
-        }
-    }
-    Ok(true)
 }
 
 #[test]
-fn edits_are_made(rt: HostRuntime) -> Result<(), Fail> {
-    let alloc = rt.alloc();
-    for row in MADE.split('\n') {
-        assert!(rt; is_made(alloc, row)?, "{row}");
+fn items_are_put_in_and_taken_out(rt: HostRuntime) -> Result<(), Fail> {
+    let subject = "array dc:subject bag\r\nappend dc:subject a\ninsert dc:subject 1 b\n\
+qualify dc:subject[1] xmp:Label q\ndelete dc:subject[2]\n";
+    let values = [
+        ("dc:subject", "bag", ""),
+        ("dc:subject[1]", "text", "b"),
+        ("dc:subject[1]/?xmp:Label", "text", "q"),
+        ("dc:subject[2]", "none", ""),
+    ];
+    assert!(rt; makes(rt.alloc(), subject, &values));
+    let sequence = "array dc:a seq\nset dc:a[1] x\nset dc:a[2] y\narray dc:a seq\ninsert dc:a 3 z";
+    let values = [
+        ("dc:a", "seq", ""),
+        ("dc:a[2]", "text", "y"),
+        ("dc:a[3]", "text", "z"),
+    ];
+    assert!(rt; makes(rt.alloc(), sequence, &values));
+    Ok(())
+}
+
+#[test]
+fn the_default_language_is_put_in_front(rt: HostRuntime) -> Result<(), Fail> {
+    let title = "setlang dc:title en Sea\nsetlang dc:title de Meer\nsetlang dc:title fr Mer\n\
+setlang dc:title x-default Sea\nqualify dc:title[2] xmp:Label q\nsetlang dc:title EN See";
+    let values = [
+        ("dc:title", "alt", ""),
+        ("dc:title[1]", "text", "Sea"),
+        ("dc:title[1]/?xml:lang", "text", "x-default"),
+        ("dc:title[2]", "text", "See"),
+        ("dc:title[2]/?xml:lang", "text", "en"),
+        ("dc:title[2]/?xmp:Label", "text", "q"),
+        ("dc:title[4]", "text", "Mer"),
+        ("dc:title[5]", "none", ""),
+    ];
+    assert!(rt; makes(rt.alloc(), title, &values));
+    Ok(())
+}
+
+#[test]
+fn structures_and_texts_are_set(rt: HostRuntime) -> Result<(), Fail> {
+    let creator = "struct dc:creator\nset dc:creator/dc:format v\n\
+seturi dc:creator/?rdf:type http://ns.adobe.com/xap/1.0/Person\nset dc:format x";
+    let values = [
+        ("dc:creator", "struct", ""),
+        (
+            "dc:creator/?rdf:type",
+            "uri",
+            "http://ns.adobe.com/xap/1.0/Person",
+        ),
+        ("dc:creator/dc:format", "text", "v"),
+        ("dc:format", "text", "x"),
+    ];
+    assert!(rt; makes(rt.alloc(), creator, &values));
+    let spaces = "set dc:subject x\nns demo http://e/\nset demo:a y\ndelete dc:format";
+    let values = [("dc:subject", "text", "x"), ("dc:format", "none", "")];
+    assert!(rt; makes(rt.alloc(), spaces, &values));
+    let source = "set dc:source a\\rb\\nc\\td&e<f]]>\u{1F600}\\\\";
+    let values = [("dc:source", "text", "a\rb\nc\td&e<f]]>\u{1F600}\\")];
+    assert!(rt; makes(rt.alloc(), source, &values));
+    Ok(())
+}
+
+/// The rule and the number of a fault.
+fn told(stop: PlaceStop) -> (&'static str, u64) {
+    match stop {
+        PlaceStop::Fault(rule, at) => (rule.name(), at),
+        PlaceStop::Memory => ("memory", 0),
+    }
+}
+
+/// The fault of a script over the tree.
+fn fault(alloc: Global, script: &str) -> (&'static str, u64) {
+    match made(alloc, script) {
+        Ok(_) => ("none", 0),
+        Err(stop) => told(stop),
+    }
+}
+
+#[test]
+fn edits_are_refused(rt: HostRuntime) -> Result<(), Fail> {
+    let faults = [
+        ("set dc:format/xmp:Label x", "WrongShape", 1),
+        ("set dc:source x\ndelete dc:title", "NoSuchPlace", 2),
+        (
+            "array dc:a bag\nappend dc:a a\ninsert dc:a 3 c",
+            "OutOfArray",
+            3,
+        ),
+        ("\n#x\nappend dc:format x", "WrongShape", 3),
+        ("append dc:a x", "NoSuchPlace", 1),
+        ("array dc:a bag\ndelete dc:a[1]", "OutOfArray", 2),
+        ("array dc:a bag\nset dc:a[en] x", "NoSuchPlace", 2),
+        ("array dc:a bag\nsetlang dc:a en x", "WrongShape", 2),
+        ("array dc:a alt\narray dc:a bag", "WrongShape", 2),
+        ("struct dc:a\nset dc:a x", "WrongShape", 2),
+        ("set dc:a/dc:b x", "NoSuchPlace", 1),
+        ("set dc:format[1] x", "WrongShape", 1),
+    ];
+    for (script, rule, line) in faults {
+        assert!(rt; fault(rt.alloc(), script) == (rule, line), "{script}");
     }
     Ok(())
 }
 
-/// Scripts, each with its fault: the rule and the line's number.
-const REFUSED: &str = "\
-set dc:format/xmp:Label x|WrongShape 1\n\
-set dc:source x;frob|BadLine 2\n\
-set dc:source x;delete dc:title|NoSuchPlace 2\n\
-array dc:a bag;append dc:a a;insert dc:a 3 c|OutOfArray 3\n\
-;#x;append dc:format x|WrongShape 3\n\
-append dc:a x|NoSuchPlace 1\n\
-insert dc:a 1 x|NoSuchPlace 1\n\
-array dc:a bag;set dc:a[2] x|OutOfArray 2\n\
-array dc:a bag;delete dc:a[1]|OutOfArray 2\n\
-array dc:a bag;set dc:a[en] x|NoSuchPlace 2\n\
-array dc:a bag;setlang dc:a en x|WrongShape 2\n\
-array dc:a alt;array dc:a bag|WrongShape 2\n\
-struct dc:a;set dc:a x|WrongShape 2\n\
-set dc:a/dc:b x|NoSuchPlace 1\n\
-set dc:format[1] x|WrongShape 1\n\
-set|BadLine 1\n\
-set dc:a|BadLine 1\n\
-set  x|BadLine 1\n\
-delete dc:a |BadLine 1\n\
-array dc:a bag |BadLine 1\n\
-array dc:a list|BadLine 1\n\
-struct dc:a b|BadLine 1\n\
-insert dc:a 0 x|BadLine 1\n\
-insert dc:a 1234567890 x|BadLine 1\n\
-set dc:a \\x|BadLine 1\n\
-set dc:a \\|BadLine 1\n\
-ns 1 http://e/|BadLine 1\n\
-ns p |BadLine 1\n\
-set dc:a[ x|BadPath 1\n\
-qualify dc:a dc:b/dc:c x|BadPath 1\n\
-set zz:a x|UnknownPrefix 1\n\
-set rdf:a x;set zz:a x|Reserved 1\n\
-qualify dc:a zz:b \u{FFFE}|UnknownPrefix 1\n\
-ns dc http://e/|Reserved 1\n\
-ns XMLx http://e/|Reserved 1\n\
-ns p http://e/;ns p http://f/|Reserved 2\n\
-ns p http://www.w3.org/2000/xmlns/|Reserved 1\n\
-ns p \u{FFFE}|BadText 1\n\
-set dc:a/?rdf:type x|Reserved 1\n\
-seturi dc:a/?xml:lang x|Reserved 1\n\
-array dc:a/?xml:lang bag|Reserved 1\n\
-set dc:a \u{FFFE}|BadText 1\n\
-setlang dc:a 1 \u{FFFE}|BadText 1\n\
-set dc:a/?xml:lang 1|BadTag 1\n\
-qualify dc:a xml:lang e_n|BadTag 1\n\
-setlang dc:a 1 x|BadTag 1\n\
-append dc:a[1][1][1][1][1][1][1][1][1][1][1][1][1][1][1][1][1][1][1][1][1][1][1] x|EditDeep 1\n\
-setlang dc:a[1][1][1][1][1][1][1][1][1][1][1][1][1][1][1][1][1][1][1][1][1][1] en x|EditDeep 1\n\
-append dc:a[1][1][1][1][1][1][1][1][1][1][1][1][1][1][1][1][1][1][1][1][1][1] x|NoSuchPlace 1";
-
-/// Whether the script is refused as the row says.
-fn is_refused(alloc: Global, row: &str) -> Result<bool, PlaceStop> {
-    let (script, wanted) = row.split_once('|').unwrap_or((row, ""));
-    let (rule, number) = wanted.split_once(' ').unwrap_or((wanted, ""));
-    match edited(alloc, first(alloc)?, lines(alloc, script)?.as_str()) {
-        Err(PlaceStop::Fault(fault, at)) => {
-            Ok(fault.name() == rule && number.parse::<u64>() == Ok(at))
-        }
-        Err(PlaceStop::Memory) => Err(PlaceStop::Memory),
-        Ok(_) => Ok(false),
-    }
-}
-
 #[test]
-fn scripts_are_refused(rt: HostRuntime) -> Result<(), Fail> {
-    let alloc = rt.alloc();
-    for row in REFUSED.split('\n') {
-        assert!(rt; is_refused(alloc, row)?, "{row}");
+fn lines_are_refused(rt: HostRuntime) -> Result<(), Fail> {
+    let faults = [
+        ("set dc:source x\nfrob", "BadLine", 2),
+        ("set dc:a", "BadLine", 1),
+        ("set  x", "BadLine", 1),
+        ("delete dc:a ", "BadLine", 1),
+        ("array dc:a list", "BadLine", 1),
+        ("insert dc:a 0 x", "BadLine", 1),
+        ("insert dc:a 1234567890 x", "BadLine", 1),
+        ("set dc:a \\x", "BadLine", 1),
+        ("set dc:a \\", "BadLine", 1),
+        ("set dc:a x\rset", "none", 0),
+        ("ns 1 http://e/", "BadLine", 1),
+        ("set dc:a[ x", "BadPath", 1),
+        ("set zz:a x", "UnknownPrefix", 1),
+        ("set rdf:a x\nset zz:a x", "Reserved", 1),
+        ("ns p http://e/\nns p http://f/", "Reserved", 2),
+        ("set dc:a/?rdf:type x", "Reserved", 1),
+        ("set dc:a \u{FFFE}", "BadText", 1),
+        ("setlang dc:a 1 x", "BadTag", 1),
+        (
+            "append dc:a[1][1][1][1][1][1][1][1][1][1][1][1][1][1][1][1][1][1][1][1][1][1][1] x",
+            "EditDeep",
+            1,
+        ),
+    ];
+    for (script, rule, line) in faults {
+        assert!(rt; fault(rt.alloc(), script) == (rule, line), "{script}");
     }
     Ok(())
 }
@@ -181,8 +192,7 @@ fn scripts_are_refused(rt: HostRuntime) -> Result<(), Fail> {
 fn fault_of(script: Result<Script, PlaceStop>) -> (&'static str, u64) {
     match script {
         Ok(_) => ("none", 0),
-        Err(PlaceStop::Fault(rule, at)) => (rule.name(), at),
-        Err(PlaceStop::Memory) => ("memory", 0),
+        Err(stop) => told(stop),
     }
 }
 
@@ -198,50 +208,40 @@ fn one_set_names_its_words(rt: HostRuntime) -> Result<(), Fail> {
     Ok(())
 }
 
-/// The text at `dc:source`.
-fn source<'t>(alloc: Global, tree: &'t Tree<'_>) -> &'t [u8] {
-    let Ok(path) = xmp_paths::Path::read(alloc, b"dc:source", &Hints::new(alloc)) else {
-        return b"";
-    };
-    match xmp_paths::find(tree, &path) {
-        Some(value) => match &value.shape {
-            Shape::Simple(text) => text.bytes(),
-            _ => b"",
-        },
-        None => b"",
+/// Whether two scripts make one tree.
+fn make_one(alloc: Global, one: &str, other: &str) -> bool {
+    match (made(alloc, one), made(alloc, other)) {
+        (Ok(one), Ok(other)) => equal(&one, &other),
+        _ => false,
     }
 }
 
 #[test]
-fn escapes_are_told(rt: HostRuntime) -> Result<(), Fail> {
-    let alloc = rt.alloc();
-    let line = "set dc:source a\\rb\\nc\\td&e<f]]>\u{1F600}\\\\";
-    let tree = edited(alloc, first(alloc)?, line)?;
-    let want = "a\rb\nc\td&e<f]]>\u{1F600}\\";
-    assert!(rt; source(alloc, &tree) == want.as_bytes());
+fn an_empty_script_changes_nothing(rt: HostRuntime) -> Result<(), Fail> {
+    assert!(rt; make_one(rt.alloc(), "", "\n# x\n\r\n"));
+    assert!(rt; !make_one(rt.alloc(), "", "set dc:format x"));
     Ok(())
 }
 
-#[test]
-fn an_empty_script_changes_nothing(rt: HostRuntime) -> Result<(), Fail> {
-    let alloc = rt.alloc();
-    let tree = first(alloc)?;
-    let same = edited(alloc, copy(alloc, &tree)?, "\n# x\n\r\n")?;
-    assert!(rt; equal(&tree, &same));
-    Ok(())
+/// Whether the hint of a script at a place is this one; there is none where the prefix is empty.
+fn is_hint(alloc: Global, script: &str, at: usize, space: &str, prefix: &str) -> bool {
+    match Script::read(alloc, script.as_bytes(), &Hints::new(alloc)) {
+        Ok(script) => match script.hints().get(at) {
+            Some(hint) => {
+                hint.space.as_slice() == space.as_bytes()
+                    && hint.prefix.as_slice() == prefix.as_bytes()
+            }
+            None => prefix.is_empty(),
+        },
+        Err(_) => false,
+    }
 }
 
 #[test]
 fn lines_give_their_hints(rt: HostRuntime) -> Result<(), Fail> {
-    let alloc = rt.alloc();
-    let given = Hints::new(alloc);
-    let lines = b"ns a http://e/\nns b http://e/\nns c http://f/\nset b:x 1";
-    let script = Script::read(alloc, lines, &given)?;
-    let hints = script.hints().as_slice();
-    assert!(rt; hints.len() == 2);
-    assert!(rt;
-        hints[0].prefix.as_slice() == b"a".as_slice()
-            && hints[1].space.as_slice() == b"http://f/".as_slice()
-    );
+    let lines = "ns a http://e/\nns b http://e/\nns c http://f/\nset b:x 1";
+    assert!(rt; is_hint(rt.alloc(), lines, 0, "http://e/", "a"));
+    assert!(rt; is_hint(rt.alloc(), lines, 1, "http://f/", "c"));
+    assert!(rt; is_hint(rt.alloc(), lines, 2, "", ""));
     Ok(())
 }

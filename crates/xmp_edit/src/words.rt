@@ -117,7 +117,7 @@ pub fn word_told<'s>(alloc: Global, text: &'s [u8]) -> Result<Option<Told<'s>>, 
     let word = Text::raw(word);
     match unescaped(alloc, rest)? {
         Some(bytes) => {
-            let text = Text::own(bytes);
+            let text = Text::own(alloc, bytes)?;
             Ok(Some(Told { word, text }))
         }
         None => Ok(None),

@@ -1,5 +1,8 @@
 pub mod Loads
+pub mod OneMeaning
+pub mod OnePhotograph
 pub mod LoadedPhotographs
+pub mod LoadedExtended
 pub mod OneStep
 pub mod Opens
 pub mod NeverMissing

@@ -11,8 +11,8 @@ use Rattle.xmp_files.specs.declared.kinds.Kind.TheVariants.{Jpeg, Sidecar}
 use Rattle.xmp_files.specs.declared.held.Need.{Need}
 use Rattle.xmp_files.specs.Faults.{packet_limit, over_packet, not_built}
 use Rattle.xmp_files.specs.Stages.{followed, Followed}
-use Rattle.xmp_files.specs.Keeping.{Text, Kept, sidecar, photograph}
-use Rattle.xmp_files.specs.Photographs.{IsCut, main_packet}
+use Rattle.xmp_files.specs.Keeping.{Text, Kept, sidecar}
+use Rattle.xmp_files.specs.Photographs.{IsCut}
 use Rattle.xmp_files.specs.Loading.{kind_of_file, limited, IsKept, IsLoaded}
 use Rattle.xmp_files.specs.Planning.{Edited, Plan}
 use Rattle.xmp_files.specs.Plans.{IsPlanned}
@@ -55,8 +55,8 @@ record Asks (need : Need) (bytes : List ℕ) (kept : Kept) : Type 0 where
 cut_asks : (need : Need) (bytes : List ℕ) (held : Result Kept Fault) (kept : Kept) → IsCut need bytes held → Ok kept ≡ followed held limited → Asks need bytes kept
 cut_asks need bytes (Err fault) kept cut e = let bad : Ok kept ≡ Err fault = e in absurd (cc bad)
 cut_asks need bytes (Ok other) kept cut e =
-    let is : kept ≡ photograph need (length bytes) cut.0 (main_packet bytes cut.0) = limited_keeps kept other other.payload e ∙ cut.2 in
-    record { size = ap (λ (k : Kept). k.size) is; need_is = ap (λ (k : Kept). k.need) is }
+    let same : kept ≡ other = limited_keeps kept other other.payload e in
+    record { size = ap (λ (k : Kept). k.size) (same ∙ cut.is); need_is = ap (λ (k : Kept). k.need) (same ∙ cut.is) }
 
 asks : (need : Need) (bytes : List ℕ) (by : Result Kind Fault) (kept : Kept) → Followed by (IsKept need bytes) (Ok kept) → Asks need bytes kept
 asks need bytes (Err fault) kept h = absurd (cc h)

@@ -1,5 +1,5 @@
 -- A JPEG file is cut into its regions, and its main packet is read.
-use Rattle.std.proofs.Common.{◌≡◌, ◌≢◌, ℕ, ◌+◌, ◌-◌, ◌<◌, ◌≤◌, min, Bool, true, false, List, [], ◌∷◌, length, take, drop, get_or, refl, sym, ap, ◌∙◌, subst, arith, Ok, Err, Some, None, if◌then◌else◌}
+use Rattle.std.proofs.Common.{◌≡◌, ◌≢◌, ℕ, ◌+◌, ◌-◌, ◌<◌, ◌≤◌, min, Bool, true, false, List, [], ◌∷◌, length, take, drop, get_or, refl, sym, ap, ◌∙◌, subst, arith, inl, Ok, Err, Some, None, if◌then◌else◌}
 use Rattle.std.specs.declared.option.Option.{Option}
 use Rattle.std.specs.declared.result.Result.{Result}
 use Rattle.std.specs.FinMap.{get}
@@ -21,9 +21,9 @@ use Rattle.xmp_values.specs.declared.rules.Rule.TheVariants.{FileLimit}
 use Rattle.xmp_values.specs.declared.stops.DeviceStop.{DeviceStop}
 use Rattle.xmp_values.specs.declared.stops.DeviceStop.TheVariants as cuts
 use Rattle.xmp_values.specs.declared.stops.FileStop.{FileStop}
-use Rattle.xmp_values.specs.declared.stops.FileStop.TheVariants.{Fault as Refused, Device, Memory}
+use Rattle.xmp_values.specs.declared.stops.FileStop.TheVariants.{Absent, Fault as Refused, Device, Memory}
 use Rattle.xmp_values.specs.Stops.{fault_at}
-use Rattle.jpeg_regions.specs.Jpeg.{Region, Jpeg as IsJpeg, FaultIn, no_tail, bad_marker, bad_length, truncated, two_packets, mains, is_main}
+use Rattle.jpeg_regions.specs.Jpeg.{Region, Jpeg as IsJpeg, FaultIn, no_tail, bad_marker, bad_length, truncated, two_packets, mains, is_main, portion_payloads}
 use Rattle.jpeg_regions.specs.Cutting.{BeginsJpeg, Tiles}
 use Rattle.jpeg_regions.specs.FromDesk.{near_end, IsNear, CutCalls, CutKnownCall}
 use Rattle.jpeg_regions.proofs.Places.{cuts_tile, lies, one_place, MainAt, main_at}
@@ -35,10 +35,11 @@ use Rattle.xmp_files.specs.Faults.{file_limit, over_limit, not_known, packet_lim
 use Rattle.xmp_files.specs.Kinds.{kind_of, is_jpeg}
 use Rattle.xmp_files.specs.Stages.{followed}
 use Rattle.xmp_files.specs.Keeping.{Piece, Segments, Kept, photograph}
-use Rattle.xmp_files.specs.Photographs.{piece_at, main_payload, packet_range, main_packet, IsCut}
+use Rattle.xmp_files.specs.Photographs.{piece_at, main_payload, packet_range, main_packet, named_portions, IsName, IsCut}
+use Rattle.xmp_files.specs.Meanings.{IsNote}
 use Rattle.xmp_files.specs.Loading.{known, kind_of_file, limited_by, IsContained}
 use Rattle.xmp_files.specs.Sparing.{IsUnread, Spares, HasContainer, Spared}
-use Rattle.xmp_files.specs.Loads.{SizedCall, IsLoadRefusal, PayloadLies, IsOfSize, read_before, cut_stop}
+use Rattle.xmp_files.specs.Loads.{SizedCall, KeptCall, IsLoadRefusal, PayloadLies, IsOfSize, read_before, cut_stop}
 use Rattle.xmp_files.proofs.Loads.{Sized, sized_refusal, known_as, by_known, spared_trans}
 
 -- Kinds.
@@ -76,14 +77,14 @@ kind_told : (file : Option (List ℕ)) (kind other : Kind) → kind_of_file file
 kind_told None kind other h is = absurd (cc h)
 kind_told (Some bytes) kind other h is = kind_known bytes kind other (known_by (nat_lt file_limit (length bytes)) (length bytes) bytes kind h) is
 
-has_cut : (need : Need) (file : Option (List ℕ)) (kept : Kept) → kind_of (unwrap_or file []) ≡ Some Jpeg → HasContainer need file kept → IsCut need (unwrap_or file []) (Ok kept)
+pub has_cut : (need : Need) (file : Option (List ℕ)) (kept : Kept) → kind_of (unwrap_or file []) ≡ Some Jpeg → HasContainer need file kept → IsCut need (unwrap_or file []) (Ok kept)
 has_cut need file kept is has = subst (λ (k : Kind). IsContained need k (unwrap_or file []) (Ok kept)) (kind_told file has.0 Jpeg has.1 is) has.2
 
 -- What is spared.
 
-near_spares : (file : List ℕ) (regions : List Region) (packet : Option Piece) (m : Moved) → Tiles 2 (length file) regions → IsNear regions m
-    → (place : ℕ) → m.1 ≤ place → place < m.1 + m.2 → IsUnread (Segments regions) packet place → ⊥
-near_spares file regions packet m tiles n place from before u =
+near_spares : (file : List ℕ) (regions : List Region) (packet : Option Piece) (portions : List FileSpan) (m : Moved) → Tiles 2 (length file) regions → IsNear regions m
+    → (place : ℕ) → m.1 ≤ place → place < m.1 + m.2 → IsUnread (Segments regions) packet portions place → ⊥
+near_spares file regions packet portions m tiles n place from before u =
     let a = lies 2 (length file) regions n.0 n.1 tiles n.2 in
     let b = lies 2 (length file) regions u.0 u.1 tiles u.2 in
     let same : n.1 ≡ u.1 = one_place 2 (length file) regions n.0 u.0 n.1 u.1 place tiles n.2 u.2 (omega (arith, n.3, from)) (omega (arith, n.4, before, a.order, a.inside))
@@ -100,9 +101,10 @@ module _ (need : Need) (s t : DeskState) (name : List ℕ) (kind : Told s.files 
         m.1,
         λ k d h kept has of.
             let cut = has_cut need (get files name) kept (kind files told) has in
-            let near = m.3 files told cut.0 cut.1.cuts k d h in
-            subst (λ (x : Kept). Spares x (get_or m.0 k d)) (sym cut.2)
-            (λ place past from before u. near_spares (bytes_of files name) cut.0 (main_packet (bytes_of files name) cut.0) (get_or m.0 k d) (cuts_tile (bytes_of files name) cut.0 cut.1.cuts) near place from before u),
+            let near = m.3 files told cut.regions cut.jpeg.cuts k d h in
+            subst (λ (x : Kept). Spares x (get_or m.0 k d)) (sym cut.is)
+            (λ place past from before u. near_spares (bytes_of files name) cut.regions (main_packet (bytes_of files name) cut.regions) (named_portions (bytes_of files name) cut.note cut.regions)
+            (get_or m.0 k d) (cuts_tile (bytes_of files name) cut.regions cut.jpeg.cuts) near place from before u),
       )
 
 -- the main region, by its payload
@@ -122,9 +124,9 @@ main_lies size regions payload tiles e =
     let l = lies 2 size regions m.1.at m.0 tiles m.1.is in
     (subst (λ (p : FileSpan). p.start ≤ p.end) m.2 l.order, subst (λ (p : FileSpan). p.end ≤ size) m.2 (omega (arith, l.inside, l.to)))
 
-main_spares : (file : List ℕ) (regions : List Region) (packet : Option Piece) (payload : FileSpan) → Tiles 2 (length file) regions → main_payload regions ≡ Some payload
-    → (place : ℕ) → payload.start ≤ place → place < payload.end → IsUnread (Segments regions) packet place → ⊥
-main_spares file regions packet payload tiles e place from before u =
+main_spares : (file : List ℕ) (regions : List Region) (packet : Option Piece) (portions : List FileSpan) (payload : FileSpan) → Tiles 2 (length file) regions → main_payload regions ≡ Some payload
+    → (place : ℕ) → payload.start ≤ place → place < payload.end → IsUnread (Segments regions) packet portions place → ⊥
+main_spares file regions packet portions payload tiles e place from before u =
     let m = main_of regions payload e in
     let a = lies 2 (length file) regions m.1.at m.0 tiles m.1.is in
     let b = lies 2 (length file) regions u.0 u.1 tiles u.2 in
@@ -145,10 +147,11 @@ module _ (need : Need) (t u : DeskState) (name : List ℕ) (regions : List Regio
         m.1,
         λ k d h kept has of.
             let cut = has_cut need (get files name) kept (kind files told) has in
-            let same : regions ≡ cut.0 = cuts_same (bytes_of files name) regions cut.0 (jpeg files told).cuts cut.1.cuts in
+            let same : regions ≡ cut.regions = cuts_same (bytes_of files name) regions cut.regions (jpeg files told).cuts cut.jpeg.cuts in
             let i = m.2 k d h in
-            subst (λ (x : Kept). Spares x (get_or m.0 k d)) (sym cut.2)
-            (λ place past from before u. main_spares (bytes_of files name) cut.0 (main_packet (bytes_of files name) cut.0) payload (cuts_tile (bytes_of files name) cut.0 cut.1.cuts)
+            subst (λ (x : Kept). Spares x (get_or m.0 k d)) (sym cut.is)
+            (λ place past from before u. main_spares (bytes_of files name) cut.regions (main_packet (bytes_of files name) cut.regions) (named_portions (bytes_of files name) cut.note cut.regions)
+            payload (cuts_tile (bytes_of files name) cut.regions cut.jpeg.cuts)
             (ap main_payload (sym same) ∙ main) place (omega (arith, i.from_start, low, from)) (omega (arith, i.to_end, high, before)) u),
       )
 
@@ -226,6 +229,20 @@ module _ (need : Need) (s t : DeskState) (name : List ℕ) (size : ℕ) (sized :
 len_same : (s t : DeskState) (name : List ℕ) (size : ℕ) → t.lens ≡ s.lens → len_of s name ≡ size → len_of t name ≡ size
 len_same s t name size lens len = ap (λ (m : Lens). unwrap_or (get m name) 0) lens ∙ len
 
+-- a packet without a note names no text
+pub unnamed : (payloads : List FileSpan) (packet : Option Piece) → IsNote packet None → IsName payloads packet None
+unnamed [] packet note = refl
+unnamed (payload ∷ payloads) packet note = note
+
+-- reads of a file, one after another
+pub inside_both : (s t u : DeskState) (name : List ℕ) (size : ℕ) → ReadInside s t name 0 size → ReadInside t u name 0 size → ReadInside s u name 0 size
+inside_both s t u name size a b = record {
+  same = same_trans s t u a.same b.same;
+  counts = counts_trans s t u a.counts b.counts;
+  lens = b.lens ∙ a.lens;
+  reads = inside_trans name 0 size s.reads t.reads u.reads a.reads b.reads;
+}
+
 -- what a cut reads
 cut_reads : (s t : DeskState) (name : List ℕ) (size : ℕ) (result : Result (List Region) DeviceStop) → CutKnownCall s t name size result → ReadInside s t name 0 size
 cut_reads s t name size result call = record { same = call.calls.same; counts = call.calls.counts; lens = call.lens; reads = call.inside }
@@ -246,20 +263,22 @@ module _ (need : Need) (s t : DeskState) (name : List ℕ) (size : ℕ) (sized :
   cut_stopped stop out call is = subst (λ (f : FileStop). SizedCall need s t name size (Err f)) (sym is) (cut_stopped_by stop call)
 
   module _ (regions : List Region) (call : CutKnownCall s t name size (Ok regions)) where
-    -- what is kept, with this packet
-    cut_as : (kept : Kept) (packet : Option Piece) → kept ≡ photograph need size regions packet → Told s.files (λ files. packet ≡ main_packet (bytes_of files name) regions)
-        → Told s.files (λ files. IsCut need (bytes_of files name) (Ok kept))
-    cut_as kept packet is same files told = (
-      regions,
-      call.told files told,
-      is ∙ ap (λ (n : ℕ). photograph need n regions packet) (sym (sized.whole files told)) ∙ ap (photograph need (length (bytes_of files name)) regions) (same files told),
-    )
-
     -- no region is the main one
-    pub cut_empty : (kept : Kept) → kept ≡ photograph need size regions None → main_payload regions ≡ None → SizedCall need s t name size (Ok kept)
+    pub cut_empty : (kept : Kept) → kept ≡ photograph need size regions None [] None → main_payload regions ≡ None → SizedCall need s t name size (Ok kept)
     cut_empty kept is none =
         photograph_kept need s t name size sized kind (cut_reads s t name size _ call) (cut_spares need s t name kind call.calls) kept
-        (cut_as kept None is (λ files told. sym (ap (option_map (λ (payload : FileSpan). piece_at (bytes_of files name) (packet_range payload))) none)))
+        (λ files told.
+        let file = bytes_of files name in
+        let empty : main_packet file regions ≡ None = ap (option_map (λ (payload : FileSpan). piece_at file (packet_range payload))) none in
+        record {
+          regions = regions;
+          jpeg = call.told files told;
+          note = None;
+          noted = unnamed (portion_payloads regions) (main_packet file regions) (subst (λ (packet : Option Piece). IsNote packet None) (sym empty) refl);
+          extended = None;
+          joins = refl;
+          is = is ∙ ap (λ (n : ℕ). photograph need n regions None [] None) (sym (sized.whole files told)) ∙ ap (λ (packet : Option Piece). photograph need (length file) regions packet [] None) (sym empty);
+        })
         (subst (IsOfSize size) (sym is) (record { whole = refl; payload = tt }))
 
     module _ (payload range : FileSpan) (main : main_payload regions ≡ Some payload) (ranged : range ≡ packet_range payload) where
@@ -277,7 +296,7 @@ module _ (need : Need) (s t : DeskState) (name : List ℕ) (size : ℕ) (sized :
           let end : range.end ≡ payload.end = ap (λ (r : FileSpan). r.end) ranged in
           record { from = omega (arith, l.0, start); order = omega (arith, start, end); end = end; within = omega (arith, end, l.1) }
 
-      packet_is : (file : List ℕ) → Some (piece_at file range) ≡ main_packet file regions
+      pub packet_is : (file : List ℕ) → Some (piece_at file range) ≡ main_packet file regions
       packet_is file = ap (λ (r : FileSpan). Some (piece_at file r)) ranged ∙ sym (ap (option_map (λ (p : FileSpan). piece_at file (packet_range p))) main)
 
       length_piece : (file : List ℕ) → length file ≡ size → length (take (range.end - range.start) (drop range.start file)) ≡ range.end - range.start
@@ -297,11 +316,19 @@ module _ (need : Need) (s t : DeskState) (name : List ℕ) (size : ℕ) (sized :
           (long, omega (arith, placed.within, len), refl) (λ x. cc x) (cut_spares need s t name kind call.calls)
           (λ files told.
           let file = bytes_of files name in
-          let kept : Kept = photograph need (length file) regions (Some (piece_at file range)) in
+          let kept : Kept = photograph need (length file) regions (Some (piece_at file range)) [] None in
           let same : length (piece_at file range).bytes ≡ range.end - range.start = length_piece file (sized.whole files told) in
           by_known need file (Ok Jpeg) (Err (over_packet (range.end - range.start))) (known_as file Jpeg (kind files told)) (
             Ok kept,
-            (regions, call.told files told, ap (photograph need (length file) regions) (packet_is file)),
+            record {
+              regions = regions;
+              jpeg = call.told files told;
+              note = None;
+              noted = unnamed (portion_payloads regions) (main_packet file regions) (subst (λ (packet : Option Piece). IsNote packet None) (packet_is file) (inl (omega (arith, long, same), refl)));
+              extended = None;
+              joins = refl;
+              is = ap (λ (packet : Option Piece). photograph need (length file) regions packet [] None) (packet_is file);
+            },
             ap (λ (n : ℕ). let e : Result Kept Fault = Err (over_packet n) in e) (sym same) ∙ over_limited kept (piece_at file range) (omega (arith, long, same)),
           )))
 
@@ -328,9 +355,34 @@ module _ (need : Need) (s t : DeskState) (name : List ℕ) (size : ℕ) (sized :
       pub packet_wants : (u : DeskState) → WindowCall t u name range.start (range.end - range.start) (Err windows.Memory) → SizedCall need s u name size (Err Memory)
       packet_wants u read = photograph_wants need s u name size sized kind (both_read u _ read) (both_spare u _ read)
 
-      pub packet_read : (u : DeskState) (bytes : List ℕ) (kept : Kept) → WindowCall t u name range.start (range.end - range.start) (Ok bytes) → range.end - range.start ≤ packet_limit
-          → kept ≡ photograph need size regions (Some (record { at = range.start; bytes = bytes })) → SizedCall need s u name size (Ok kept)
-      packet_read u bytes kept read short is = photograph_kept need s u name size sized kind (both_read u _ read) (both_spare u _ read) kept
-          (cut_as kept (Some (record { at = range.start; bytes = bytes })) is
-          (λ files told. ap (λ (l : List ℕ). let p : Option Piece = Some (record { at = range.start; bytes = l }) in p) (read.bytes files (call.calls.same.files ∙ told)) ∙ packet_is (bytes_of files name)))
-          (subst (IsOfSize size) (sym is) (record { whole = refl; payload = (omega (arith, read.size, placed.order, placed.within), omega (arith, read.size, short)) }))
+      -- the packet was read, and the extended text was looked for
+      module _ (u v : DeskState) (bytes : List ℕ) (read : WindowCall t u name range.start (range.end - range.start) (Ok bytes)) (short : range.end - range.start ≤ packet_limit) where
+        -- the files are told as they were
+        pub told_still : u.files ≡ s.files
+        told_still = read.calls.same.files ∙ call.calls.same.files
+
+        pub packet_told : Told u.files (λ files. Some (record { at = range.start; bytes = bytes }) ≡ main_packet (bytes_of files name) regions)
+        packet_told files told =
+            ap (λ (l : List ℕ). let p : Option Piece = Some (record { at = range.start; bytes = l }) in p) (read.bytes files (sym read.calls.same.files ∙ told)) ∙ packet_is (bytes_of files name)
+
+        pub packet_lies : range.start + length bytes ≤ size
+        packet_lies = omega (arith, read.size, placed.order, placed.within)
+
+        pub packet_short : length bytes ≤ packet_limit
+        packet_short = omega (arith, read.size, short)
+
+        module _ (last : Result Kept FileStop) (after : KeptCall need u v name size last) where
+          last_reads : ReadInside s v name 0 size
+          last_reads = inside_both s u v name size (both_read u (Ok bytes) read) after.calls
+
+          last_spared : Spared need s v name
+          last_spared = spared_trans need s u v name told_still (both_spare u (Ok bytes) read) after.spared
+
+        pub packet_read : (last : Result Kept FileStop) → KeptCall need u v name size last → SizedCall need s v name size last
+        packet_read (Ok kept) after = photograph_kept need s v name size sized kind (last_reads (Ok kept) after) (last_spared (Ok kept) after) kept
+            (λ files told. after.told files (told_still ∙ told)) after.held
+        packet_read (Err Device) after = photograph_fails need s v name size sized kind (last_reads (Err Device) after) (last_spared (Err Device) after)
+            (rose_after s.faults u.faults v.faults (both_read u (Ok bytes) read).counts.faults after.fails)
+        packet_read (Err Memory) after = photograph_wants need s v name size sized kind (last_reads (Err Memory) after) (last_spared (Err Memory) after)
+        packet_read (Err Absent) after = absurd after.fails
+        packet_read (Err (Refused fault)) after = absurd after.fails

@@ -2,9 +2,9 @@
 use Rattle.std.proofs.Common.{◌≡◌, ℕ, Bool, true, false, List, [], ◌∷◌, Option, Some, None, Ok, Err, inl, inr, if◌then◌else◌, ap, sym, ◌∙◌, subst, refl}
 use Rattle.std.specs.declared.result.Result.{Result}
 use Rattle.xmp_values.specs.declared.faults.Fault.{Fault}
-use Rattle.xmp_values.specs.declared.faults.Part.TheVariants.{Main}
+use Rattle.xmp_values.specs.declared.faults.Part.TheVariants.{Main, Extended}
 use Rattle.xmp_values.specs.declared.rules.Rule.{Rule}
-use Rattle.xmp_values.specs.declared.rules.Rule.TheVariants.{NoFile, NotBuilt, NoRdf, NotDescription, AboutDiffers, NoNamespace, XmlName, RdfName, RefusedAttribute, BadParseType, Mixed, ManyNodes, BadContainer, BadItem, TwiceValue, Twice, TreeDeep}
+use Rattle.xmp_values.specs.declared.rules.Rule.TheVariants.{NoFile, XmpLimit, Gap, NoRdf, NotDescription, AboutDiffers, NoNamespace, XmlName, RdfName, RefusedAttribute, BadParseType, Mixed, ManyNodes, BadContainer, BadItem, TwiceValue, Twice, TreeDeep}
 use Rattle.xmp_values.specs.declared.hints.Hint.{Hint}
 use Rattle.xmp_values.specs.declared.text.Name.{Name}
 use Rattle.xml_grammar.specs.declared.elements.Element.{Element}
@@ -13,23 +13,28 @@ use Rattle.rdf_forms.specs.Visits.{Visit, visits}
 use Rattle.rdf_forms.specs.NameRules.{name_rule, no_rdf, not_description, about_differs, no_namespace, xml_name, rdf_name}
 use Rattle.rdf_forms.specs.FormRules.{form_rule, refused_attribute, bad_parse_type, mixed, many_nodes, bad_container, bad_item}
 use Rattle.rdf_forms.specs.MemberRules.{member_rule, twice_value, twice, tree_deep}
-use Rattle.rdf_forms.specs.Rules.{or_else, broken, broken_in, placed, fault_at, first_fault, fault_of}
+use Rattle.std.specs.Option.{option_or}
+use Rattle.rdf_forms.specs.Rules.{broken, broken_in, placed, fault_at, first_fault, fault_of}
 use Rattle.xmp_rdf.specs.Meanings.{reading, most_levels}
 use Rattle.xmp_rdf.specs.Meanings as readings
 use Rattle.xmp_rdf.specs.declared.meanings.Meaning.{Meaning}
 use Rattle.xmp_packets.specs.Packets.{packet_text}
 use Rattle.xmp_values.specs.Stops as stops
 use Rattle.xmp_files.specs.Stages.{Followed}
-use Rattle.xmp_files.specs.Faults.{not_built}
+use Rattle.rdf_forms.specs.Merging.{merged}
+use Rattle.xmp_files.specs.Faults.{over_extended, gap_at}
+use Rattle.xmp_files.specs.declared.held.Extended.{Extended as ExtendedOf}
+use Rattle.xmp_files.specs.declared.held.Extended.TheVariants as texts
 use Rattle.xmp_files.specs.declared.opening.Opened.{Opened}
-use Rattle.xmp_files.specs.Keeping.{Piece, Container, Text, Segments, Kept}
-use Rattle.xmp_files.specs.Opening.{Means, Opens, OpensMain, IsJoined, IsOpened, joined_in, in_main, no_meaning}
+use Rattle.xmp_files.specs.Keeping.{Piece, Kept}
+use Rattle.xmp_files.specs.Meanings.{Means, Opens, OpensMain, in_main, no_meaning}
+use Rattle.xmp_files.specs.Opening.{IsJoinedTo, IsJoined, IsOpened, alone, merged_to, with_both}
 
 -- a rule, if there is one, isn't that of a missing file
 abbrev IsThere : Option Rule → Type 0
 IsThere rule = rule ≡ Some NoFile → ⊥
 
-or_there : (a b : Option Rule) → IsThere a → IsThere b → IsThere (or_else a b)
+or_there : (a b : Option Rule) → IsThere a → IsThere b → IsThere (option_or a b)
 or_there None b h k = k
 or_there (Some a) b h k = h
 
@@ -94,7 +99,7 @@ placed_there : (place : ℕ) (rule : Option Rule) → IsThere rule → IsFoundTh
 placed_there place None h = λ other e. cc
 placed_there place (Some rule) h = λ other e. h (ap rule_in e)
 
-or_found : (a b : Option (Rule × ℕ)) → IsFoundThere a → IsFoundThere b → IsFoundThere (or_else a b)
+or_found : (a b : Option (Rule × ℕ)) → IsFoundThere a → IsFoundThere b → IsFoundThere (option_or a b)
 or_found None b h k = k
 or_found (Some a) b h k = h
 
@@ -138,14 +143,31 @@ main_there : (payload : Option Piece) (fault : Fault) → OpensMain payload (Err
 main_there None fault is = absurd (let bad : Err fault ≡ Ok no_meaning = is in cc)
 main_there (Some piece) fault opens = opens_there piece.bytes fault opens
 
--- nor is a text that isn't joined
-in_there : (c : Container) (m : Meaning) (note : Option (List ℕ)) (fault : Fault) → (let e : Result Opened Fault = Err fault in e) ≡ joined_in c m note → fault.rule ≡ NoFile → ⊥
-in_there Text m note fault is = absurd (cc is)
-in_there (Segments regions) m None fault is = absurd (cc is)
-in_there (Segments regions) m (Some name) fault is = λ rule. let same : fault ≡ not_built = cc is in let bad : NotBuilt ≡ NoFile = sym (ap (λ (f : Fault). f.rule) same) ∙ rule in cc bad
+-- nor is an extended text
+
+extended_there : (text : List ℕ) (main : Meaning) (read : Result Meaning (Rule × ℕ)) (fault : Fault) → Means text read → (let e : Result Opened Fault = Err fault in e) ≡ merged_to main read
+    → fault.rule ≡ NoFile → ⊥
+extended_there text main (Ok more) fault means e missing = both_there (merged main more) e
+  where
+    both_there : (both : Result Meaning ℕ) → (let x : Result Opened Fault = Err fault in x) ≡ with_both both → ⊥
+    both_there (Ok both) is = cc is
+    both_there (Err place) is =
+        let same : fault ≡ stops.fault_at Twice Extended place = cc is in
+        let bad : Twice ≡ NoFile = sym (ap (λ (f : Fault). f.rule) same) ∙ missing in cc bad
+extended_there text main (Err (rule, place)) fault means e missing =
+    let same : fault ≡ stops.fault_at rule Extended place = cc e in
+    never_missing text place (subst (λ (r : Rule). Means text (Err (r, place))) (sym (ap (λ (f : Fault). f.rule) same) ∙ missing) means)
+
+text_joined_there : (extended : Option ExtendedOf) (main : Meaning) (fault : Fault) → IsJoinedTo extended main (Err fault) → fault.rule ≡ NoFile → ⊥
+text_joined_there None main fault is missing = absurd (let bad : Err fault ≡ Ok (alone main) = is in cc)
+text_joined_there (Some (texts.TooLong full)) main fault is missing =
+    let same : fault ≡ over_extended full = cc is in let bad : XmpLimit ≡ NoFile = sym (ap (λ (f : Fault). f.rule) same) ∙ missing in cc bad
+text_joined_there (Some (texts.Gap place)) main fault is missing =
+    let same : fault ≡ gap_at place = cc is in let bad : Gap ≡ NoFile = sym (ap (λ (f : Fault). f.rule) same) ∙ missing in cc bad
+text_joined_there (Some (texts.Joined text)) main fault is missing = extended_there text main is.0 fault is.1 is.2 missing
 
 joined_there : (kept : Kept) (main : Result Meaning Fault) (fault : Fault) → OpensMain kept.payload main → Followed main (IsJoined kept) (Err fault) → fault.rule ≡ NoFile → ⊥
-joined_there kept (Ok meaning) fault opens is = in_there kept.container meaning meaning.note fault is
+joined_there kept (Ok meaning) fault opens is = text_joined_there kept.extended meaning fault is
 joined_there kept (Err f) fault opens is = main_there kept.payload fault (subst (λ (g : Fault). OpensMain kept.payload (Err g)) (let e : f ≡ fault = cc is in e) opens)
 
 -- nor is what is kept

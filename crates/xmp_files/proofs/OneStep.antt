@@ -1,18 +1,13 @@
 -- What is kept of a file, and what it means, have at most one step each.
-use Rattle.std.proofs.Common.{◌≡◌, ◌∙◌, ℕ, List, [], length, Ok, Err, Some, None, inl, inr, sym, ap, subst}
+use Rattle.std.proofs.Common.{◌≡◌, ◌∙◌, ℕ, List, [], Ok, Err, Some, None, sym, ap, subst}
 use Rattle.std.specs.declared.option.Option.{Option}
 use Rattle.std.specs.declared.result.Result.{Result}
 use Rattle.std.specs.Option.{unwrap_or}
 use Rattle.xmp_values.specs.declared.faults.Fault.{Fault}
 use Rattle.xmp_values.specs.declared.faults.Part.TheVariants.{File}
 use Rattle.xmp_values.specs.Stops.{fault_at}
-use Rattle.xmp_values.specs.declared.hints.Hint.{Hint}
 use Rattle.xmp_values.specs.declared.rules.Rule.{Rule}
-use Rattle.xml_grammar.specs.declared.elements.Element.{Element}
-use Rattle.xml_grammar.specs.Documents.{IsDocument}
-use Rattle.xml_grammar.proofs.OneMeaning.{one_document, one_fault, no_fault}
 use Rattle.xmp_rdf.specs.declared.meanings.Meaning.{Meaning}
-use Rattle.xmp_rdf.specs.Meanings.{reading}
 use Rattle.xmp_packets.specs.Packets.{packet_text}
 use Rattle.xmp_files.specs.declared.kinds.Kind.{Kind}
 use Rattle.xmp_files.specs.declared.kinds.Kind.TheVariants.{Jpeg, Sidecar}
@@ -20,12 +15,16 @@ use Rattle.xmp_files.specs.declared.held.Need.{Need}
 use Rattle.xmp_files.specs.declared.held.Need.TheVariants.{Packet}
 use Rattle.xmp_files.specs.declared.opening.Opened.{Opened}
 use Rattle.xmp_files.specs.Stages.{followed, Followed}
-use Rattle.xmp_files.specs.Keeping.{Piece, Kept, photograph}
-use Rattle.xmp_files.specs.Photographs.{IsCut, main_packet}
-use Rattle.jpeg_regions.specs.Jpeg.{Region}
-use Rattle.jpeg_regions.proofs.Faults.{cuts_same, fault_same, list_or_fault}
+use Rattle.xmp_files.specs.Keeping.{Piece, Kept}
+use Rattle.xmp_files.specs.Photographs.{IsCut}
+use Rattle.jpeg_regions.proofs.Faults.{fault_same, list_or_fault}
 use Rattle.xmp_files.specs.Loading.{kind_of_file, limited, IsContained, IsKept, IsLoaded}
-use Rattle.xmp_files.specs.Opening.{Means, Opens, OpensMain, IsJoined, IsOpened, Holds, in_main}
+use Rattle.xmp_files.specs.declared.held.Extended.{Extended}
+use Rattle.xmp_files.specs.declared.held.Extended.TheVariants as extended
+use Rattle.xmp_files.specs.Meanings.{Opens, OpensMain, in_main}
+use Rattle.xmp_files.specs.Opening.{IsJoinedTo, IsJoined, IsOpened, Holds, merged_to}
+use Rattle.xmp_files.proofs.OneMeaning.{one_meaning}
+use Rattle.xmp_files.proofs.OnePhotograph.{one_photograph}
 
 -- a relation holds of at most one step
 abbrev One : {B : Type 0} → (Result B Fault → Type 0) → Type 0
@@ -39,26 +38,6 @@ one_after : {A B : Type 0} (first other : Result A Fault) (Next : A → Result B
     → (a b : Result B Fault) → Followed first Next a → Followed other Next b → a ≡ b
 one_after first other Next one same a b p q = one_followed first Next one a b p (subst (λ f. Followed f Next b) (sym same) q)
 
--- the readings of a text's documents are one
-same_reading : (text : List ℕ) (e f : Element) (g h : List Hint) (a b : Result Meaning (Rule × ℕ)) → IsDocument text e g → IsDocument text f h
-    → reading e g ≡ a → reading f h ≡ b → a ≡ b
-same_reading text e f g h a b d k i j =
-    let same = one_document text e f g h d k in
-    sym i ∙ ap (λ x. reading x g) same.0 ∙ ap (λ x. reading f x) same.1 ∙ j
-
-one_meaning : (text : List ℕ) (a b : Result Meaning (Rule × ℕ)) → Means text a → Means text b → a ≡ b
-one_meaning text (Ok m) (Ok n) p q = same_reading text p.0 q.0 p.1 q.1 (Ok m) (Ok n) p.2 q.2 p.3 q.3
-one_meaning text (Ok m) (Err (r, place)) p (inl f) = absurd (no_fault text p.0 p.1 r place p.2 f)
-one_meaning text (Ok m) (Err (r, place)) p (inr q) = same_reading text p.0 q.0 p.1 q.1 (Ok m) (Err (r, place)) p.2 q.2 p.3 q.3
-one_meaning text (Err (r, place)) (Ok n) (inl f) q = absurd (no_fault text q.0 q.1 r place q.2 f)
-one_meaning text (Err (r, place)) (Ok n) (inr p) q = same_reading text p.0 q.0 p.1 q.1 (Err (r, place)) (Ok n) p.2 q.2 p.3 q.3
-one_meaning text (Err (r, place)) (Err (s, other)) (inl f) (inl g) =
-    let same = one_fault text r s place other f g in
-    ap (λ x. let e : Result Meaning (Rule × ℕ) = Err (x, place) in e) same.0 ∙ ap (λ x. let e : Result Meaning (Rule × ℕ) = Err (s, x) in e) same.1
-one_meaning text (Err (r, place)) (Err (s, other)) (inl f) (inr q) = absurd (no_fault text q.0 q.1 r place q.2 f)
-one_meaning text (Err (r, place)) (Err (s, other)) (inr p) (inl g) = absurd (no_fault text p.0 p.1 s other p.2 g)
-one_meaning text (Err (r, place)) (Err (s, other)) (inr p) (inr q) = same_reading text p.0 q.0 p.1 q.1 (Err (r, place)) (Err (s, other)) p.2 q.2 p.3 q.3
-
 one_payload : (payload : List ℕ) → One (Opens payload)
 one_payload payload a b p q = p.2 ∙ ap in_main (one_meaning (packet_text payload) p.0 q.0 p.1 q.1) ∙ sym q.2
 
@@ -66,18 +45,22 @@ one_main : (payload : Option Piece) → One (OpensMain payload)
 one_main None = λ a b p q. p ∙ sym q
 one_main (Some piece) = one_payload piece.bytes
 
+one_joined_to : (extended : Option Extended) (meaning : Meaning) → One (IsJoinedTo extended meaning)
+one_joined_to None meaning = λ a b p q. p ∙ sym q
+one_joined_to (Some (extended.TooLong full)) meaning = λ a b p q. p ∙ sym q
+one_joined_to (Some (extended.Gap place)) meaning = λ a b p q. p ∙ sym q
+one_joined_to (Some (extended.Joined text)) meaning = λ a b p q. p.2 ∙ ap (merged_to meaning) (one_meaning text p.0 q.0 p.1 q.1) ∙ sym q.2
+
 one_joined : (kept : Kept) (meaning : Meaning) → One (IsJoined kept meaning)
-one_joined kept meaning a b p q = p ∙ sym q
+one_joined kept meaning = one_joined_to kept.extended meaning
 
 pub one_opened : (kept : Kept) (a b : Result Opened Fault) → IsOpened kept a → IsOpened kept b → a ≡ b
 one_opened kept a b p q = one_after p.0 q.0 (IsJoined kept) (one_joined kept) (one_main kept.payload p.0 q.0 p.1 q.1) a b p.2 q.2
 
 one_cut : (need : Need) (bytes : List ℕ) → One (IsCut need bytes)
-one_cut need bytes (Ok k) (Ok l) p q =
-    let same : p.0 ≡ q.0 = cuts_same bytes p.0 q.0 p.1.cuts q.1.cuts in
-    ap (λ (x : Kept). let r : Result Kept Fault = Ok x in r) (p.2 ∙ ap (λ (rs : List Region). photograph need (length bytes) rs (main_packet bytes rs)) same ∙ sym q.2)
-one_cut need bytes (Ok k) (Err f) p q = absurd (list_or_fault bytes p.0 q.0 q.1 p.1 q.2)
-one_cut need bytes (Err f) (Ok k) p q = absurd (list_or_fault bytes q.0 p.0 p.1 q.1 p.2)
+one_cut need bytes (Ok k) (Ok l) p q = ap (λ (x : Kept). let r : Result Kept Fault = Ok x in r) (one_photograph need bytes k l p q)
+one_cut need bytes (Ok k) (Err f) p q = absurd (list_or_fault bytes p.regions q.0 q.1 p.jpeg q.2)
+one_cut need bytes (Err f) (Ok k) p q = absurd (list_or_fault bytes q.regions p.0 p.1 q.jpeg p.2)
 one_cut need bytes (Err f) (Err g) p q =
     let same = fault_same bytes p.0 q.0 p.1 q.1 p.2 q.2 in
     ap (λ (x : Fault). let r : Result Kept Fault = Err x in r)

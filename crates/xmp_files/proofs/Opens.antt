@@ -1,27 +1,33 @@
 -- What a file means, from what the readers of its payload returned.
-use Rattle.std.proofs.Common.{◌≡◌, ℕ, true, false, is_some, sym, List, Ok, Err, Some, None, subst, refl}
+use Rattle.std.proofs.Common.{◌≡◌, ℕ, true, sym, ap, ◌∙◌, List, length, take, Ok, Err, Some, None, subst, refl}
 use Rattle.std.specs.declared.option.Option.{Option}
 use Rattle.std.specs.declared.result.Result.{Result}
 use Rattle.std.specs.Option.{option_map}
-use Rattle.xmp_values.specs.declared.faults.Part.TheVariants.{Main}
+use Rattle.std.proofs.lemmas.List.{length-take, take_min}
+use Rattle.xmp_values.specs.declared.faults.Part.TheVariants.{Main, Extended as InExtended}
 use Rattle.xmp_values.specs.declared.rules.Rule.{Rule}
+use Rattle.xmp_values.specs.declared.rules.Rule.TheVariants.{Twice}
 use Rattle.xmp_values.specs.declared.stops.PlaceStop.{PlaceStop}
 use Rattle.xmp_values.specs.declared.stops.PlaceStop.TheVariants as places
-use Rattle.xmp_values.specs.Stops.{stop_in}
+use Rattle.xmp_values.specs.Stops.{stop_in, fault_at, fault_of, Answers}
 use Rattle.xmp_rdf.specs.declared.meanings.Meaning.{Meaning}
 use Rattle.xmp_packets.specs.Packets.{packet_text}
 use Rattle.xmp_files.specs.declared.opening.Opened.{Opened}
 use Rattle.xmp_values.specs.declared.faults.Fault.{Fault}
 use Rattle.xmp_values.specs.declared.stops.FaultStop.{FaultStop}
 use Rattle.xmp_values.specs.declared.stops.FaultStop.TheVariants as faults
-use Rattle.jpeg_regions.specs.Jpeg.{Region}
-use Rattle.xmp_files.specs.Faults.{not_built}
-use Rattle.xmp_files.specs.Keeping.{Piece, Container, Text, Segments, IsSegments, Kept}
-use Rattle.xmp_files.specs.Opening.{Means, OpensMain, joined_in, in_main, no_meaning}
-use Rattle.xmp_files.specs.Openings.{IsMeant, JoinAnswer, OpenAnswer}
+use Rattle.rdf_forms.specs.Merging.{merged}
+use Rattle.xmp_files.specs.declared.held.Extended.{Extended}
+use Rattle.xmp_files.specs.declared.held.Extended.TheVariants as texts
+use Rattle.xmp_files.specs.Faults.{over_extended, gap_at}
+use Rattle.xmp_files.specs.Keeping.{Piece, Kept}
+use Rattle.xmp_files.specs.Meanings.{Means, OpensMain, in_main, no_meaning}
+use Rattle.xmp_files.specs.Opening.{IsJoinedTo, alone, with_both}
+use Rattle.xmp_files.specs.Openings.{IsMeant, TextAnswer, JoinAnswer, OpenAnswer}
 
-abbrev opened : Meaning → Opened
-opened meaning = record { meaning = meaning; joined = false }
+-- the first bytes of a list, as many as a beginning of it has
+pub take_as_many : (m n : ℕ) (xs : List ℕ) → n ≡ length (take m xs) → take n xs ≡ take m xs
+take_as_many m n xs is = ap (λ (k : ℕ). take k xs) (is ∙ length-take m xs) ∙ take_min m xs
 
 -- the text of the payload, and what it means
 main_opens : (payload : Option Piece) (text : List ℕ) (read : Result Meaning (Rule × ℕ)) → Some text ≡ option_map (λ (p : Piece). packet_text p.bytes) payload
@@ -56,20 +62,36 @@ pub empty_opens : (kept : Kept) (meaning : Meaning) (result : Result Opened Faul
 empty_opens kept meaning result is empty h =
     joined_opens kept meaning result (subst (λ (m : Meaning). OpensMain kept.payload (Ok m)) (sym empty) (none_opens kept.payload is)) h
 
--- a note of a JPEG file
-pub note_refused : (c : Container) (m : Meaning) (note : Option (List ℕ)) → IsSegments c → is_some note ≡ true → (let e : Result Opened Fault = Err not_built in e) ≡ joined_in c m note
-note_refused Text m note segments some = absurd segments
-note_refused (Segments regions) m None segments some = absurd (cc some)
-note_refused (Segments regions) m (Some name) segments some = refl
+-- The extended text.
 
-pub none_joined : (c : Container) (m : Meaning) (note : Option (List ℕ)) → is_some note ≡ false → Ok (opened m) ≡ joined_in c m note
-none_joined Text m note none = refl
-none_joined (Segments regions) m None none = refl
-none_joined (Segments regions) m (Some name) none = absurd (cc none)
+-- what was read of it is merged to what the main packet means
+module _ (text : List ℕ) (main : Meaning) where
+  pub text_stopped : (stop : PlaceStop) → IsMeant text (Err stop) → TextAnswer text main (Err (stop_in stop InExtended))
+  text_stopped (places.Fault rule place) means = (Err (rule, place), means, refl)
+  text_stopped places.Memory means = tt
 
-pub text_joined : (c : Container) (m : Meaning) (note : Option (List ℕ)) → c ≡ Text → Ok (opened m) ≡ joined_in c m note
-text_joined Text m note is = refl
-text_joined (Segments regions) m note is = absurd (segments_text regions is)
-  where
-    segments_text : (rs : List Region) → Segments rs ≡ Text → ⊥
-    segments_text rs e = cc e
+  module _ (more : Meaning) (means : IsMeant text (Ok more)) where
+    pub text_merged : (both : Meaning) → merged main more ≡ Ok both → TextAnswer text main (Ok (record { meaning = both; joined = true }))
+    text_merged both is = (Ok more, means, ap with_both (sym is))
+
+    pub text_twice : (place : ℕ) → merged main more ≡ Err place → TextAnswer text main (Err (faults.Fault (fault_at Twice InExtended place)))
+    text_twice place is = (Ok more, means, ap with_both (sym is))
+
+-- the text of a file is joined as it is
+module _ (main : Meaning) where
+  pub none_joined : (extended : Option Extended) → None ≡ extended → IsJoinedTo extended main (Ok (alone main))
+  none_joined None is = refl
+  none_joined (Some other) is = absurd (cc is)
+
+  pub text_joined : (extended : Option Extended) (text : List ℕ) (result : Result Opened FaultStop) → Some (texts.Joined text) ≡ extended → TextAnswer text main result
+      → Answers fault_of result (λ opened. IsJoinedTo extended main (Ok opened)) (λ fault. IsJoinedTo extended main (Err fault))
+  text_joined extended text result is h =
+      subst (λ (e : Option Extended). Answers fault_of result (λ opened. IsJoinedTo e main (Ok opened)) (λ fault. IsJoinedTo e main (Err fault))) is h
+
+  pub long_joined : (extended : Option Extended) (full : ℕ) (fault : Fault) → Some (texts.TooLong full) ≡ extended → fault ≡ over_extended full → IsJoinedTo extended main (Err fault)
+  long_joined extended full fault is same =
+      subst (λ (e : Option Extended). IsJoinedTo e main (Err fault)) is (ap (λ (f : Fault). let r : Result Opened Fault = Err f in r) same)
+
+  pub gap_joined : (extended : Option Extended) (place : ℕ) (fault : Fault) → Some (texts.Gap place) ≡ extended → fault ≡ gap_at place → IsJoinedTo extended main (Err fault)
+  gap_joined extended place fault is same =
+      subst (λ (e : Option Extended). IsJoinedTo e main (Err fault)) is (ap (λ (f : Fault). let r : Result Opened Fault = Err f in r) same)

@@ -51,7 +51,7 @@ limited_keeps kept other (Some piece) e = kept_by (nat_lt packet_limit (length p
 pub cut_no_text : (need : Need) (bytes : List ℕ) (held : Result Kept Fault) (kept : Kept) → IsCut need bytes held → Ok kept ≡ followed held limited → kept.container ≡ Text → ⊥
 cut_no_text need bytes (Err fault) kept cut e text = let bad : Ok kept ≡ Err fault = e in cc bad
 cut_no_text need bytes (Ok other) kept cut e text =
-    let bad : Segments cut.0 ≡ Text = sym (ap (λ (k : Kept). k.container) (limited_keeps kept other other.payload e ∙ cut.2)) ∙ text in cc bad
+    let bad : Segments cut.regions ≡ Text = sym (ap (λ (k : Kept). k.container) (limited_keeps kept other other.payload e ∙ cut.is)) ∙ text in cc bad
 
 -- what is kept of a sidecar is its packet
 pub sidecar_kept : (need : Need) (bytes : List ℕ) (kept : Kept) → IsKept need bytes Sidecar (Ok kept) → kept ≡ sidecar need bytes

@@ -81,7 +81,7 @@ edited_plan payload container joined e plan fixed (inr h) =
     inr (exchange_of payload container joined e plan fixed c.0 c.1)
 
 -- without a digest and without relocation the file stays, or its packet is exchanged
-patch_plan : (container : Container) (payload : Option Piece) (joined : Bool) (e : Edited) (plan : Plan) → e.digest ≡ None → IsWrittenIn container payload joined true e (Ok plan)
+pub patch_plan : (container : Container) (payload : Option Piece) (joined : Bool) (e : Edited) (plan : Plan) → e.digest ≡ None → IsWrittenIn container payload joined true e (Ok plan)
     → (plan ≡ Same) ⊎ IsExchange payload e plan
 patch_plan Text payload joined e plan fixed h = edited_plan payload Text joined e plan fixed h
 patch_plan (Segments regions) payload joined e plan fixed h = absurd (let bad : Ok plan ≡ Err not_built = h in cc)

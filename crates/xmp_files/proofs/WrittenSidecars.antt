@@ -26,7 +26,8 @@ use Rattle.xmp_files.specs.Kinds.{kind_of}
 use Rattle.xmp_files.specs.Stages.{followed, Followed}
 use Rattle.xmp_files.specs.Keeping.{Kept, sidecar}
 use Rattle.xmp_files.specs.Loading.{known, kind_of_file, IsKept, IsLoaded}
-use Rattle.xmp_files.specs.Opening.{Means, Opens, IsOpened, HoldsTree}
+use Rattle.xmp_files.specs.Meanings.{Means, Opens}
+use Rattle.xmp_files.specs.Opening.{IsOpened, HoldsTree}
 
 -- what the text means, as reading gives it
 abbrev meant : (text : List ℕ) (declared : List Hint) (t : Parts) (note : Option (List ℕ)) → TextMeans text declared t note → Meaning

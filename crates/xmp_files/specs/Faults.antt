@@ -2,8 +2,8 @@
 use Rattle.std.specs.Prelude.{ℕ}
 use Rattle.xmp_values.specs.Stops.{fault_at}
 use Rattle.xmp_values.specs.declared.faults.Fault.{Fault}
-use Rattle.xmp_values.specs.declared.faults.Part.TheVariants.{File, Main}
-use Rattle.xmp_values.specs.declared.rules.Rule.TheVariants.{NoFile, FileLimit, NotKnown, NotBuilt, XmpLimit}
+use Rattle.xmp_values.specs.declared.faults.Part.TheVariants.{File, Main, Extended}
+use Rattle.xmp_values.specs.declared.rules.Rule.TheVariants.{NoFile, FileLimit, NotKnown, NotBuilt, XmpLimit, Gap}
 
 -- FILE isn't there
 abbrev pub no_file : Fault
@@ -32,3 +32,11 @@ packet_limit = 16777216
 -- the main payload is longer than the limit
 abbrev pub over_packet : ℕ → Fault
 over_packet size = record { rule = XmpLimit; place = record { part = Main; at = 0 }; x = size; y = packet_limit }
+
+-- the extended text, by what its first portion says, is longer than the limit
+abbrev pub over_extended : ℕ → Fault
+over_extended size = record { rule = XmpLimit; place = record { part = Extended; at = 0 }; x = size; y = packet_limit }
+
+-- the portions of the extended text tile it up to this place alone
+abbrev pub gap_at : ℕ → Fault
+gap_at place = fault_at Gap Extended place

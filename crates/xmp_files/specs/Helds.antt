@@ -11,4 +11,4 @@ piece_of part = record { at = part.at; bytes = part.bytes }
 
 abbrev pub kept_of : Need → Contents → Kept
 kept_of need (Sidecar bytes) = sidecar need bytes
-kept_of need (Photograph size regions packet) = photograph need size regions (option_map piece_of packet)
+kept_of need (Photograph size regions packet extended) = photograph need size regions (option_map piece_of packet) extended.portions.items extended.joined

@@ -1,9 +1,11 @@
 -- What is kept of a file.
-use Rattle.std.specs.Prelude.{ℕ, List, [], length, Option, Some}
+use Rattle.std.specs.Prelude.{ℕ, List, [], length, Option, None, Some}
 use Rattle.jpeg_regions.specs.Jpeg.{Region}
 use Rattle.xmp_files.specs.declared.kinds.Kind.{Kind}
 use Rattle.xmp_files.specs.declared.kinds.Kind.TheVariants.{Jpeg, Sidecar}
 use Rattle.xmp_files.specs.declared.held.Need.{Need}
+use Rattle.xmp_files.specs.declared.held.Extended.{Extended}
+use Rattle.xmp_base.specs.declared.file_span.FileSpan.{FileSpan}
 
 -- bytes, and the place in the file where they stand
 pub record Piece : Type 0 where
@@ -36,8 +38,10 @@ pub record Kept : Type 0 where
   -- the payload of the main packet, if there is one
   pub payload : Option Piece
   pub container : Container
-  -- the payloads of the portions of an extended text, in the order of the file
-  pub portions : List Piece
+  -- where the payloads stand of the portions of the extended text that the note of the packet names, in the order of the file
+  pub portions : List FileSpan
+  -- the text that they join to, or why they don't; none without a portion
+  pub extended : Option Extended
   -- the blocks of other metadata, where they were asked for
   pub blocks : List Block
 
@@ -50,17 +54,19 @@ sidecar need bytes = record {
   payload = Some (record { at = 0; bytes = bytes });
   container = Text;
   portions = [];
+  extended = None;
   blocks = [];
 }
 
 -- of a JPEG file of so many bytes
-abbrev pub photograph : Need → ℕ → List Region → Option Piece → Kept
-photograph need size regions packet = record {
+abbrev pub photograph : Need → ℕ → List Region → Option Piece → List FileSpan → Option Extended → Kept
+photograph need size regions packet portions extended = record {
   need = need;
   kind = Jpeg;
   size = size;
   payload = packet;
   container = Segments regions;
-  portions = [];
+  portions = portions;
+  extended = extended;
   blocks = [];
 }

@@ -3,6 +3,7 @@ pub mod Faults
 pub mod Stages
 pub mod Keeping
 pub mod Helds
+pub mod Meanings
 pub mod Photographs
 pub mod Loading
 pub mod Sparing

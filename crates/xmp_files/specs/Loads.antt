@@ -1,8 +1,8 @@
 -- What loading a file does to a desk, and what it answers.
-use Rattle.std.specs.Prelude.{◌≡◌, ◌≢◌, ℕ, ◌+◌, ◌≤◌, ◌<◌, List, length, min, IfOk, IsOk, MatchResult, Option, Some, None, Ok, Err}
+use Rattle.std.specs.Prelude.{◌≡◌, ◌≢◌, ◌⊎◌, ℕ, ◌+◌, ◌≤◌, ◌<◌, List, [], ◌∷◌, ◌++◌, length, map, min, All, IfOk, IsOk, MatchResult, Option, Some, None, Ok, Err}
 use Rattle.std.specs.declared.result.Result.{Result}
 use Rattle.std.specs.FinMap.{get}
-use Rattle.xmp_base.specs.Device.{DeskState, Told, Rose, bytes_of, len_of, OthersKeep}
+use Rattle.xmp_base.specs.Device.{DeskState, Moved, Told, Rose, bytes_of, len_of, OthersKeep}
 use Rattle.xmp_base.specs.Whole.{ReadSome}
 use Rattle.xmp_base.specs.Windows.{MovesInside, ReadInside}
 use Rattle.xmp_base.specs.declared.device.Failed.{Failed}
@@ -17,11 +17,19 @@ use Rattle.xmp_values.specs.declared.stops.DeviceStop.TheVariants as cuts
 use Rattle.xmp_values.specs.declared.stops.FileStop.{FileStop}
 use Rattle.xmp_values.specs.declared.stops.FileStop.TheVariants.{Absent, Fault as Refused, Device, Memory}
 use Rattle.xmp_files.specs.declared.kinds.Kind.{Kind}
+use Rattle.xmp_base.specs.declared.file_span.FileSpan.{FileSpan}
+use Rattle.jpeg_extended.specs.declared.from_desk.JoinStop.{JoinStop}
+use Rattle.jpeg_extended.specs.declared.from_desk.JoinStop.TheVariants as joins
+use Rattle.jpeg_extended.specs.FromDesk.{named_at, portions_at, head_range, InPayload, PayloadCalls}
 use Rattle.xmp_files.specs.declared.held.Need.{Need}
+use Rattle.xmp_files.specs.declared.held.Extended.{Extended}
+use Rattle.xmp_files.specs.declared.held.ExtendedText.{ExtendedText}
 use Rattle.xmp_files.specs.Faults.{no_file, file_limit, over_limit, not_known, not_built, packet_limit, over_packet}
 use Rattle.xmp_files.specs.Kinds.{kind_of}
 use Rattle.xmp_files.specs.Stages.{Followed}
 use Rattle.xmp_files.specs.Keeping.{Piece, Kept}
+use Rattle.xmp_files.specs.Meanings.{IsNoteOf}
+use Rattle.xmp_files.specs.Photographs.{IsExtended, IsCut}
 use Rattle.xmp_files.specs.Loading.{known, kind_of_file, IsKept, IsLoaded}
 use Rattle.xmp_files.specs.Sparing.{Spared}
 
@@ -64,6 +72,43 @@ cut_stop (cuts.Fault rule place) = Refused (fault_at rule File place)
 cut_stop cuts.Device = Device
 cut_stop cuts.Memory = Memory
 
+-- why portions weren't found or read: the device failed, or memory ran out
+abbrev pub join_stop : JoinStop → FileStop
+join_stop joins.Device = Device
+join_stop (joins.Portions stop) = Memory
+
+-- the name of an extended text, by the note of a packet, which is read where there is a portion at all
+abbrev pub IsNoteFor : List FileSpan → List ℕ → Option (List ℕ) → Type 0
+IsNoteFor [] packet note = note ≡ None
+IsNoteFor (payload ∷ payloads) packet note = IsNoteOf packet note
+
+-- memory ran out, or the device failed and counted it
+abbrev pub FailsOnly : {A : Type 0} → DeskState → DeskState → Result A FileStop → Type 0
+FailsOnly s t (Ok x) = Unit {0}
+FailsOnly s t (Err Absent) = ⊥
+FailsOnly s t (Err (Refused fault)) = ⊥
+FailsOnly s t (Err Device) = Rose s.faults t.faults
+FailsOnly s t (Err Memory) = Unit {0}
+
+-- portions of a file were joined
+pub record JoinedCall (s t : DeskState) (name : List ℕ) (portions : List FileSpan) (note : List ℕ) (result : Result (Option Extended) FileStop) : Type 0 where
+  pub calls : PayloadCalls s t name portions
+  pub told : IfOk result (λ extended. Told s.files (λ files. IsExtended (portions_at (bytes_of files name) note portions) extended))
+  pub fails : FailsOnly s t result
+
+-- the bytes that were moved lie in the head of a payload, or in a portion of the text
+pub record OfPortions (file note : List ℕ) (payloads : List FileSpan) (name : List ℕ) (m : Moved) : Type 0 where
+  pub of_name : m.0 ≡ name
+  pub place : InPayload (map head_range payloads) m.1 (m.1 + m.2) ⊎ InPayload (named_at file note payloads) m.1 (m.1 + m.2)
+
+-- the extended text of a name was found among payloads of a known file of this length, and joined
+pub record ExtendedCall (s t : DeskState) (name : List ℕ) (size : ℕ) (payloads : List FileSpan) (note : List ℕ) (result : Result ExtendedText FileStop) : Type 0 where
+  pub calls : ReadInside s t name 0 size
+  pub near : Told s.files (λ files. Told s.reads (λ reads. (more : List Moved) × (t.reads ≡ Some (reads ++ more)) × All (OfPortions (bytes_of files name) note payloads name) more))
+  pub told : IfOk result (λ text. Told s.files (λ files. (text.portions.items ≡ named_at (bytes_of files name) note payloads)
+      × IsExtended (portions_at (bytes_of files name) note text.portions.items) text.joined))
+  pub fails : FailsOnly s t result
+
 -- a payload lies in its file and is within its limit
 abbrev pub PayloadLies : ℕ → Option Piece → Type 0
 PayloadLies size None = Unit {0}
@@ -73,6 +118,14 @@ PayloadLies size (Some payload) = (payload.at + length payload.bytes ≤ size) �
 pub record IsOfSize (size : ℕ) (kept : Kept) : Type 0 where
   pub whole : kept.size ≡ size
   pub payload : PayloadLies size kept.payload
+
+-- A JPEG file of this length was kept, whose regions and packet are known.
+pub record KeptCall (need : Need) (s t : DeskState) (name : List ℕ) (size : ℕ) (result : Result Kept FileStop) : Type 0 where
+  pub calls : ReadInside s t name 0 size
+  pub spared : Spared need s t name
+  pub told : IfOk result (λ kept. Told s.files (λ files. IsCut need (bytes_of files name) (Ok kept)))
+  pub held : IfOk result (IsOfSize size)
+  pub fails : FailsOnly s t result
 
 -- the kind of a known file of this length was read from its first bytes
 pub record KindCall (s t : DeskState) (name : List ℕ) (size : ℕ) (result : Result (Option Kind) Failed) : Type 0 where

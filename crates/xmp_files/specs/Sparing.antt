@@ -1,8 +1,9 @@
 -- The bytes of a file that aren't read.
-use Rattle.std.specs.Prelude.{◌≡◌, ℕ, ◌+◌, ◌≤◌, ◌<◌, false, List, [], ◌++◌, length, slice_get, All, Option, None, Some, Ok}
+use Rattle.std.specs.Prelude.{◌≡◌, ℕ, ◌+◌, ◌≤◌, ◌<◌, false, List, [], ◌++◌, length, slice_get, All, Contains, Option, None, Some, Ok}
 use Rattle.std.specs.Option.{unwrap_or}
 use Rattle.std.specs.FinMap.{get}
 use Rattle.xmp_base.specs.Device.{DeskState, Moved, Told}
+use Rattle.xmp_base.specs.declared.file_span.FileSpan.{FileSpan}
 use Rattle.jpeg_regions.specs.Jpeg.{Region, is_main}
 use Rattle.jpeg_regions.specs.FromDesk.{near_end}
 use Rattle.xmp_files.specs.declared.kinds.Kind.{Kind}
@@ -17,15 +18,15 @@ IsOverlong None place = ⊥
 IsOverlong (Some payload) place = (packet_limit < length payload.bytes) × (payload.at ≤ place) × (place < payload.at + length payload.bytes)
 
 -- The places that aren't read. Of a JPEG file they are those of each region after what tells its kind, which is at most 75 bytes of
--- its payload, and of the tail all after its marker. The main packet alone is read.
-abbrev pub IsUnread : Container → Option Piece → ℕ → Type 0
-IsUnread Text payload place = IsOverlong payload place
-IsUnread (Segments regions) payload place =
-    (i : ℕ) × (r : Region) × (slice_get regions i ≡ Some r) × (is_main r.kind ≡ false) × (near_end r ≤ place) × (place < r.range.end)
+-- its payload, and of the tail all after its marker. The main packet and the portions of its extended text alone are read.
+abbrev pub IsUnread : Container → Option Piece → List FileSpan → ℕ → Type 0
+IsUnread Text payload portions place = IsOverlong payload place
+IsUnread (Segments regions) payload portions place =
+    (i : ℕ) × (r : Region) × (slice_get regions i ≡ Some r) × (is_main r.kind ≡ false) × (near_end r ≤ place) × (place < r.range.end) × (Contains portions r.payload → ⊥)
 
 -- a read covers no such place, but for the first 16 bytes of a file, which tell its kind
 abbrev pub Spares : Kept → Moved → Type 0
-Spares kept m = (place : ℕ) → 16 ≤ place → m.1 ≤ place → place < m.1 + m.2 → IsUnread kept.container kept.payload place → ⊥
+Spares kept m = (place : ℕ) → 16 ≤ place → m.1 ≤ place → place < m.1 + m.2 → IsUnread kept.container kept.payload kept.portions place → ⊥
 
 -- the container of FILE has no fault
 abbrev pub HasContainer : Need → Option (List ℕ) → Kept → Type 0

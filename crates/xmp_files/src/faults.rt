@@ -1,6 +1,6 @@
 //! The refusals of a file.
 ghost use Rattle.std.specs.Prelude.{◌≡◌};
-ghost use Rattle.xmp_files.specs.Faults.{no_file, over_limit, not_known, not_built, over_packet};
+ghost use Rattle.xmp_files.specs.Faults.{gap_at, over_extended, no_file, over_limit, not_known, not_built, over_packet};
 
 use xmp_values::{Fault, Part, Rule};
 
@@ -51,4 +51,22 @@ pub fn over_packet(size: u64) -> Fault
         y: PACKET_LIMIT,
         ..Fault::at(Rule::XmpLimit, Part::Main, 0)
     }
+}
+
+/// The extended text is longer than the limit, by what its first portion says.
+pub fn over_extended(size: u64) -> Fault
+    ensures { result ≡ over_extended size }
+{
+    Fault {
+        x: size,
+        y: PACKET_LIMIT,
+        ..Fault::at(Rule::XmpLimit, Part::Extended, 0)
+    }
+}
+
+/// The portions of the extended text tile it up to this place alone.
+pub fn gap_at(place: u64) -> Fault
+    ensures { result ≡ gap_at place }
+{
+    Fault::at(Rule::Gap, Part::Extended, place)
 }

@@ -11,6 +11,7 @@ ghost use Rattle.xmp_files.specs.Planneds.{bytes_in};
 
 use jpeg_regions::Regions;
 use std::marker::Model;
+use xmp_base::FileSpan;
 use xmp_packets::Packet;
 use xmp_values::Bytes;
 
@@ -30,13 +31,33 @@ pub struct MainPacket {
     pub bytes: Bytes,
 }
 
+/// What the portions of an extended text give.
+#[derive(Debug, Drop)]
+pub enum Extended {
+    /// The text that they join to.
+    Joined(Bytes),
+    /// The first of them says this length of the whole, which is over the limit.
+    TooLong(u64),
+    /// They tile the text up to this place alone, or differ in its length.
+    Gap(u64),
+}
+
+/// The extended text of a JPEG file.
+#[derive(Debug, Drop)]
+pub struct ExtendedText {
+    /// Where the payloads of its portions stand, in the order of the file.
+    pub portions: Vec<FileSpan>,
+    /// What they give; nothing without a portion.
+    pub joined: Option<Extended>,
+}
+
 /// How a file is made up, with what is kept of it.
 #[derive(Drop)]
 pub enum Contents {
     /// A file that is nothing but its packet.
     Sidecar(Bytes),
-    /// The length of a JPEG file, its regions, and its main packet.
-    Photograph(u64, Regions, Option<MainPacket>),
+    /// The length of a JPEG file, its regions, its main packet, and its extended text.
+    Photograph(u64, Regions, Option<MainPacket>, ExtendedText),
 }
 
 /// What is kept of a file. Contracts see its kind, its length, its payload with its place, how it
@@ -73,12 +94,23 @@ impl Held {
         size: u64,
         regions: Regions,
         packet: Option<MainPacket>,
+        text: ExtendedText,
     ) -> Held
-        ensures { result ≡ photograph need size regions (option_map piece_of packet) }
+        ensures { result ≡ photograph need size regions (option_map piece_of packet) text.portions.items text.joined }
     {
         Held {
             need,
-            contents: Contents::Photograph(size, regions, packet),
+            contents: Contents::Photograph(size, regions, packet, text),
+        }
+    }
+
+    /// What the portions of an extended text give, if there are any.
+    pub(crate) fn extended(&self) -> Option<&Extended>
+        ensures { option_copied result ≡ self.now.extended }
+    {
+        match &self.contents {
+            Contents::Sidecar(_) => None,
+            Contents::Photograph(_, _, _, text) => text.joined.as_ref(),
         }
     }
 
@@ -99,8 +131,8 @@ impl Held {
     {
         match &self.contents {
             Contents::Sidecar(bytes) => Some(bytes.as_slice()),
-            Contents::Photograph(_, _, Some(part)) => Some(part.bytes.as_slice()),
-            Contents::Photograph(_, _, None) => None,
+            Contents::Photograph(_, _, Some(part), _) => Some(part.bytes.as_slice()),
+            Contents::Photograph(_, _, None, _) => None,
         }
     }
 
@@ -109,7 +141,7 @@ impl Held {
         ensures { result ≡ place_of self.now.payload }
     {
         match &self.contents {
-            Contents::Photograph(_, _, Some(part)) => part.at,
+            Contents::Photograph(_, _, Some(part), _) => part.at,
             _ => 0,
         }
     }
@@ -120,8 +152,8 @@ impl Held {
     {
         match &self.contents {
             Contents::Sidecar(bytes) => bytes.len(),
-            Contents::Photograph(_, _, Some(part)) => part.bytes.len(),
-            Contents::Photograph(_, _, None) => 0,
+            Contents::Photograph(_, _, Some(part), _) => part.bytes.len(),
+            Contents::Photograph(_, _, None, _) => 0,
         }
     }
 
@@ -131,7 +163,7 @@ impl Held {
     {
         match &self.contents {
             Contents::Sidecar(bytes) => bytes.len() as u64,
-            Contents::Photograph(size, _, _) => *size,
+            Contents::Photograph(size, ..) => *size,
         }
     }
 
@@ -142,8 +174,8 @@ impl Held {
     {
         match &self.contents {
             Contents::Sidecar(bytes) => bytes.as_slice(),
-            Contents::Photograph(_, _, Some(part)) => part.bytes.as_slice(),
-            Contents::Photograph(_, _, None) => &[],
+            Contents::Photograph(_, _, Some(part), _) => part.bytes.as_slice(),
+            Contents::Photograph(_, _, None, _) => &[],
         }
     }
 

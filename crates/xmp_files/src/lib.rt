@@ -19,8 +19,10 @@ mod laws;
 #[cfg(test)]
 mod load_tests;
 mod loading;
+mod meanings;
 mod opening;
 mod patching;
+mod photographs;
 mod plans;
 
 pub use emitting::emit;

@@ -2,16 +2,15 @@
 ghost use Rattle.std.specs.Prelude.{◌≡◌, length, Some, IsTrue};
 ghost use Rattle.xmp_base.specs.Device.{Told, bytes_of, is_known, len_of};
 ghost use Rattle.xmp_files.specs.Kinds.{kind_of};
-ghost use Rattle.xmp_files.specs.Loads.{KindCall, SizedCall, LoadCall, cut_stop};
-ghost use Rattle.xmp_files.specs.Photographs.{packet_range};
+ghost use Rattle.xmp_files.specs.Loads.{KindCall, SizedCall, LoadCall};
 
 use crate::faults::{FILE_LIMIT, PACKET_LIMIT, not_built, not_known, over_limit, over_packet};
-use crate::held::{Held, MainPacket, Need};
+use crate::held::{Held, Need};
 use crate::kinds::{HEAD_LEN, Kind, kind_of};
-use jpeg_regions::{CutStop, Regions};
+use crate::photographs::load_photograph;
 use std::alloc::Global;
-use xmp_base::{Desk, Failed, FileSpan, SizeStop, WindowStop, fill_from, window};
-use xmp_values::{Fault, FileStop, Part};
+use xmp_base::{Desk, Failed, SizeStop, WindowStop, fill_from, window};
+use xmp_values::FileStop;
 
 /// What is kept of a file. Changes no file, and reads of no other name.
 ///
@@ -113,66 +112,6 @@ fn load_sidecar<D: Desk>(
     }
     match window(alloc, desk, name, 0, size as usize) {
         Ok(payload) => Ok(Held::sidecar(need, payload)),
-        Err(WindowStop::Device) => Err(FileStop::Device),
-        Err(WindowStop::Memory) => Err(FileStop::Memory),
-    }
-}
-
-/// The bytes of a payload before its packet: the signature.
-const SIGNATURE: u64 = 29;
-
-/// What stands of a payload after the packet's signature.
-fn packet_range(payload: FileSpan) -> FileSpan
-    ensures { result ≡ packet_range payload }
-{
-    FileSpan {
-        start: payload.start.saturating_add(SIGNATURE).min(payload.end),
-        end: payload.end,
-    }
-}
-
-/// Why a file that isn't cut is refused.
-fn cut_stop(stop: CutStop) -> FileStop
-    ensures { result ≡ cut_stop stop }
-{
-    match stop {
-        CutStop::Fault(rule, place) => FileStop::Fault(Fault::at(rule, Part::File, place)),
-        CutStop::Device => FileStop::Device,
-        CutStop::Memory => FileStop::Memory,
-    }
-}
-
-/// What is kept of a known JPEG file of this length: its regions, and the main packet.
-fn load_photograph<D: Desk>(
-    alloc: Global,
-    desk: &mut D,
-    name: &str,
-    size: u64,
-    need: Need,
-) -> Result<Held, FileStop>
-    requires known { IsTrue (is_known (D.state desk.old) name.now) }
-    requires len { len_of (D.state desk.old) name.now ≡ size }
-    requires told { Told (D.state desk.old).files (λ files. length (bytes_of files name.now) ≡ size) }
-    requires kind { Told (D.state desk.old).files (λ files. kind_of (bytes_of files name.now) ≡ Some Kind.Jpeg) }
-    ensures call { SizedCall need (D.state desk.old) (D.state desk.new) name.now size result }
-{
-    let regions = match Regions::cut_known(alloc, desk, name, size) {
-        Ok(regions) => regions,
-        Err(stop) => return Err(cut_stop(stop)),
-    };
-    let Some(payload) = regions.main() else {
-        return Ok(Held::photograph(need, size, regions, None));
-    };
-    let range = packet_range(payload);
-    let len = range.end - range.start;
-    if len > PACKET_LIMIT {
-        return Err(FileStop::Fault(over_packet(len)));
-    }
-    match window(alloc, desk, name, range.start, len as usize) {
-        Ok(bytes) => {
-            let at = range.start;
-            Ok(Held::photograph(need, size, regions, Some(MainPacket { at, bytes })))
-        }
         Err(WindowStop::Device) => Err(FileStop::Device),
         Err(WindowStop::Memory) => Err(FileStop::Memory),
     }

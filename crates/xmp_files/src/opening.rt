@@ -1,15 +1,15 @@
 //! What the packet of a file means.
 ghost use Rattle.std.specs.Prelude.{◌≡◌};
-ghost use Rattle.xmp_files.specs.Opening.{no_meaning};
-ghost use Rattle.xmp_files.specs.Openings.{IsMeant, JoinAnswer, OpenAnswer};
+ghost use Rattle.xmp_files.specs.Meanings.{no_meaning};
+ghost use Rattle.xmp_files.specs.Openings.{IsMeant, JoinAnswer, OpenAnswer, TextAnswer};
 
-use crate::faults::not_built;
-use crate::held::Held;
+use crate::faults::{gap_at, over_extended};
+use crate::held::{Extended, Held};
+use crate::meanings::meaning_of;
 use std::alloc::Global;
-use xmp_rdf::{Meaning, RdfStop, tree_of};
+use xmp_rdf::{Meaning, MergeStop, merge};
 use xmp_tree::empty;
-use xmp_values::{FaultStop, Hints, Part, PlaceStop, Sequence};
-use xmp_xml::read;
+use xmp_values::{Fault, FaultStop, Hints, Part, Rule, Sequence};
 
 /// A file whose packet was read. It borrows what is kept of the file.
 #[derive(Drop)]
@@ -17,18 +17,6 @@ pub struct Opened<'h> {
     pub meaning: Meaning<'h>,
     /// Whether an extended text was joined to the main packet.
     pub joined: bool,
-}
-
-/// What a text means, or the first fault of its XML, else of its RDF.
-fn meaning_of<'p>(alloc: Global, text: &'p [u8]) -> Result<Meaning<'p>, PlaceStop>
-    ensures { IsMeant text.now result }
-{
-    let doc = read(alloc, text)?;
-    match tree_of(alloc, &doc) {
-        Ok(meaning) => Ok(meaning),
-        Err(RdfStop::Fault(rule, place)) => Err(PlaceStop::Fault(rule, place)),
-        Err(RdfStop::Memory) => Err(PlaceStop::Memory),
-    }
 }
 
 /// What a file without a packet means. It takes no memory.
@@ -43,29 +31,56 @@ fn no_meaning<'p>(alloc: Global) -> Meaning<'p>
     }
 }
 
-/// What a file means whose main packet means this. An extended text of a JPEG file isn't joined yet.
-fn joined<'h>(held: &Held, meaning: Meaning<'h>) -> Result<Opened<'h>, FaultStop>
-    ensures { JoinAnswer held.now meaning.entry result }
+/// What the main packet and an extended text mean together.
+fn with_text<'h>(
+    alloc: Global,
+    meaning: Meaning<'h>,
+    text: &'h [u8],
+) -> Result<Opened<'h>, FaultStop>
+    ensures { TextAnswer text.now meaning.entry result }
 {
-    if meaning.note.is_some() && !held.is_sidecar() {
-        return Err(FaultStop::Fault(not_built()));
+    let more = match meaning_of(alloc, text) {
+        Ok(more) => more,
+        Err(stop) => return Err(stop.within(Part::Extended)),
+    };
+    match merge(alloc, meaning, more) {
+        Ok(meaning) => Ok(Opened {
+            meaning,
+            joined: true,
+        }),
+        Err(MergeStop::Twice(place)) => {
+            Err(FaultStop::Fault(Fault::at(Rule::Twice, Part::Extended, place)))
+        }
+        Err(MergeStop::Memory) => Err(FaultStop::Memory),
     }
-    Ok(Opened {
-        meaning,
-        joined: false,
-    })
 }
 
-/// What a file means, or the first fault of its packet: of the XML, else of the RDF. It borrows the texts.
+/// What a file means whose main packet means this: the extended text, if there is one, is joined.
+fn joined<'h>(alloc: Global, held: &'h Held, meaning: Meaning<'h>) -> Result<Opened<'h>, FaultStop>
+    ensures { JoinAnswer held.now meaning.entry result }
+{
+    match held.extended() {
+        None => Ok(Opened {
+            meaning,
+            joined: false,
+        }),
+        Some(Extended::Joined(text)) => with_text(alloc, meaning, text.as_slice()),
+        Some(Extended::TooLong(full)) => Err(FaultStop::Fault(over_extended(*full))),
+        Some(Extended::Gap(place)) => Err(FaultStop::Fault(gap_at(*place))),
+    }
+}
+
+/// What a file means, or the first fault: of the main packet's XML, else of its RDF, and then those of the extended
+/// text, at last a property that both have. It borrows the texts.
 pub fn read_file<'h>(alloc: Global, held: &'h Held) -> Result<Opened<'h>, FaultStop>
     // The answer is the one step of what is kept of the file, unless memory runs out.
     ensures { OpenAnswer held.now result }
 {
     match held.text() {
         Some(text) => match meaning_of(alloc, text) {
-            Ok(meaning) => joined(held, meaning),
+            Ok(meaning) => joined(alloc, held, meaning),
             Err(stop) => Err(stop.within(Part::Main)),
         },
-        None => joined(held, no_meaning(alloc)),
+        None => joined(alloc, held, no_meaning(alloc)),
     }
 }

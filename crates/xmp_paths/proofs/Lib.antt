@@ -4,5 +4,6 @@ pub mod Collected
 pub mod Digits
 pub mod SpelledNames
 pub mod Spaces
+pub mod LinePlaces
 pub mod AllowedPaths
 pub mod Pieces

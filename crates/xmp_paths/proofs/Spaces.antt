@@ -10,12 +10,12 @@ use Rattle.std.proofs.lemmas.Bool.{and_parts, not-true, both_ways}
 use Rattle.std.proofs.lemmas.Slice.Eq.{bytes_eq-Decides}
 use Rattle.xmp_values.specs.declared.hints.Hint.{Hint}
 use Rattle.xmp_values.specs.Characters.{IsCharText, is_char}
-use Rattle.xmp_values.specs.Hints.{IsValidHint}
+use Rattle.xmp_values.specs.Hints.{IsValidHint, space_in}
 use Rattle.xmp_values.specs.Spaces.{rdf_space, xml_space, xmlns_space, meta_space}
 use Rattle.xmp_values.proofs.CharacterTexts.{IsCharText-spells}
 use Rattle.known_prefixes.specs.Prefixes.{known_prefixes, known_space}
 use Rattle.xmp_paths.specs.Parts.{Bindings}
-use Rattle.xmp_paths.specs.Namespaces.{hinted_space, space_of, AreBound}
+use Rattle.xmp_paths.specs.Namespaces.{space_of, AreBound}
 use Rattle.xmp_paths.proofs.Options.{some_if}
 
 pub record IsSpace (space : List ℕ) : Type 0 where
@@ -28,12 +28,11 @@ found : {X : Type 0} (P : X → Type 0) (p : X → Bool) (xs : List X) → All P
 found P p [] h = tt
 found P p (x ∷ xs) h = some_if P (p x) (Some x) (find p xs) (All-head P x xs h) (found P p xs (All-tail P x xs h))
 
-hinted : (hints : List Hint) (prefix : List ℕ) → All IsValidHint hints → IfSome (hinted_space hints prefix) IsSpace
-hinted hints prefix valid = by (find (λ h. bytes_eq prefix h.prefix) hints) (found IsValidHint (λ h. bytes_eq prefix h.prefix) hints valid)
-  where
-    by : (o : Option Hint) → IfSome o IsValidHint → IfSome (option_map (λ h. h.space) o) IsSpace
-    by (Some h) v = record { chars = v.chars; some = v.spaced; bound = v.bound }
-    by None v = tt
+hinted : (hints : List Hint) (prefix : List ℕ) → All IsValidHint hints → IfSome (space_in hints prefix) IsSpace
+hinted [] prefix valid = tt
+hinted (h ∷ hs) prefix valid =
+    let v = All-head IsValidHint h hs valid in
+    some_if IsSpace (bytes_eq prefix h.prefix) (Some h.space) (space_in hs prefix) record { chars = v.chars; some = v.spaced; bound = v.bound } (hinted hs prefix (All-tail IsValidHint h hs valid))
 
 abbrev IsKnown : List ℕ × List ℕ → Type 0
 IsKnown k = IsSpace k.0
@@ -113,5 +112,5 @@ either P None b h t = t
 
 pub space_is : (b : Bindings) (prefix : List ℕ) → AreBound b → IfSome (space_of b prefix) IsSpace
 space_is b prefix bound =
-    either IsSpace (hinted_space b.lines prefix) (option_or (known_space prefix) (hinted_space b.hints prefix)) (hinted b.lines prefix bound.lines)
-    (either IsSpace (known_space prefix) (hinted_space b.hints prefix) (known prefix) (hinted b.hints prefix bound.hints.each))
+    either IsSpace (space_in b.lines prefix) (option_or (known_space prefix) (space_in b.hints prefix)) (hinted b.lines prefix bound.lines)
+    (either IsSpace (known_space prefix) (space_in b.hints prefix) (known prefix) (hinted b.hints prefix bound.hints.each))

@@ -42,7 +42,7 @@ impl Path {
         let Some(spelling) = spelled(alloc, text)? else {
             return Err(RuleStop::Fault(Rule::BadPath));
         };
-        let path = Path::named(alloc, &Namespaces::of(alloc, hints), &spelling)?;
+        let path = Path::named(alloc, &Namespaces::of(alloc, hints)?, &spelling)?;
         if path.steps.len() > 23 {
             return Err(RuleStop::Fault(Rule::EditDeep));
         }

@@ -8,7 +8,7 @@ use crate::spelling::{Prefixed, SpelledStep};
 use crate::step::Step;
 use std::alloc::Global;
 use xmp_tree::{copy_text, is_lang, is_note, is_type};
-use xmp_values::{Bytes, Memory, Name, Sequence, Text, is_rdf_space, is_xml_space};
+use xmp_values::{Bytes, Memory, Name, Sequence, Text, is_rdf_namespace, is_xml_namespace};
 
 /// The name of a spelled one; None where its prefix isn't found.
 pub fn name_found(
@@ -22,7 +22,7 @@ pub fn name_found(
     let Some(space) = spaces.space_of(spelled.prefix.bytes()) else {
         return Ok(None);
     };
-    let space = Text::own(Bytes::from_slice(alloc, space)?);
+    let space = Text::own(alloc, Bytes::from_slice(alloc, space)?)?;
     let local = copy_text(alloc, &spelled.local)?;
     Ok(Some(Name { space, local }))
 }
@@ -70,7 +70,7 @@ pub fn steps_found(
 fn is_foreign(name: &Name<'_>) -> bool
     ensures { result ≡ is_foreign name.now }
 {
-    is_rdf_space(name.space.bytes()) || is_xml_space(name.space.bytes())
+    is_rdf_namespace(name.space.bytes()) || is_xml_namespace(name.space.bytes())
 }
 
 /// Whether the name is `xml:lang` or `rdf:type`.

@@ -2,22 +2,23 @@
 use Rattle.std.proofs.Common.{◌≡◌, List, [], ◌∷◌, ◌++◌, refl, sym, ap, ◌∙◌}
 use Rattle.std.specs.Prelude.{Option, Some, None, Result, Ok, Err}
 use Rattle.rdf_forms.specs.Visits.{Visit}
-use Rattle.rdf_forms.specs.Rules.{or_else, fault_at, first_fault}
+use Rattle.std.specs.Option.{option_or}
+use Rattle.rdf_forms.specs.Rules.{fault_at, first_fault}
 use Rattle.xmp_rdf.specs.Answering.{Fault}
 use Rattle.xmp_rdf.specs.Reading.{unless}
 
-pub or_else_assoc : {X : Type 0} (a b c : Option X) → or_else (or_else a b) c ≡ or_else a (or_else b c)
-or_else_assoc (Some x) b c = refl
-or_else_assoc None b c = refl
+pub option_or_assoc : {X : Type 0} (a b c : Option X) → option_or (option_or a b) c ≡ option_or a (option_or b c)
+option_or_assoc (Some x) b c = refl
+option_or_assoc None b c = refl
 
-pub or_else_none : {X : Type 0} (a : Option X) → or_else a None ≡ a
-or_else_none (Some x) = refl
-or_else_none None = refl
+pub option_or_none : {X : Type 0} (a : Option X) → option_or a None ≡ a
+option_or_none (Some x) = refl
+option_or_none None = refl
 
-pub first_fault-append : (vs ws : List Visit) → first_fault (vs ++ ws) ≡ or_else (first_fault vs) (first_fault ws)
+pub first_fault-append : (vs ws : List Visit) → first_fault (vs ++ ws) ≡ option_or (first_fault vs) (first_fault ws)
 first_fault-append [] ws = refl
 first_fault-append (v ∷ vs) ws =
-    ap (or_else (fault_at v)) (first_fault-append vs ws) ∙ sym (or_else_assoc (fault_at v) (first_fault vs) (first_fault ws))
+    ap (option_or (fault_at v)) (first_fault-append vs ws) ∙ sym (option_or_assoc (fault_at v) (first_fault vs) (first_fault ws))
 
 -- what is read after what was read
 abbrev pub and_then : {X Y : Type 0} → Result X Fault → (X → Result Y Fault) → Result Y Fault
@@ -30,7 +31,7 @@ and_then-ok r x more is = ap (λ s. and_then s more) is
 pub and_then-err : {X Y : Type 0} (r : Result X Fault) (e : Fault) (more : X → Result Y Fault) → r ≡ Err e → and_then r more ≡ Err e
 and_then-err r e more is = ap (λ s. and_then s more) is
 
-pub unless-and_then : {X Y : Type 0} (f g : Option Fault) (x : X) (y : Y) → unless (or_else f g) y ≡ and_then (unless f x) (λ _. unless g y)
+pub unless-and_then : {X Y : Type 0} (f g : Option Fault) (x : X) (y : Y) → unless (option_or f g) y ≡ and_then (unless f x) (λ _. unless g y)
 unless-and_then None g x y = refl
 unless-and_then (Some e) g x y = refl
 

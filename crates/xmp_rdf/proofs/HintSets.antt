@@ -48,8 +48,8 @@ new_apart main more i j d lt within same =
     let never : false ≡ true = ap not (sym found) ∙ lacks in
     absurd cc
 
-pub valid_behind : (main more : List Hint) → AreValid main → AreValid more → AreValid (main ++ new_hints main more)
-valid_behind main more a b = record {
+pub valid_after : (main more : List Hint) → AreValid main → AreValid more → AreValid (main ++ new_hints main more)
+valid_after main more a b = record {
   apart = pairs_append (λ g h. g.space ≢ h.space) main (new_hints main more) a.apart
       (AllPairs-filter (λ g h. g.space ≢ h.space) (λ h. not (has_space main h.space)) more b.apart) (new_apart main more);
   each = All-append IsValidHint main (new_hints main more) a.each (All-filter (λ h. not (has_space main h.space)) IsValidHint more b.each);
@@ -60,9 +60,9 @@ all_new : (more : List Hint) → more ≡ new_hints [] more
 all_new [] = refl
 all_new (h ∷ hs) = ap (λ gs. h ∷ gs) (all_new hs)
 
-pub behind_none : (main more : List Hint) → length main ≡ 0 → more ≡ main ++ new_hints main more
-behind_none [] more none = all_new more
-behind_none (h ∷ hs) more none = absurd (omega arith)
+pub after_none : (main more : List Hint) → length main ≡ 0 → more ≡ main ++ new_hints main more
+after_none [] more none = all_new more
+after_none (h ∷ hs) more none = absurd (omega arith)
 
 pub with_none : (main more : List Hint) → length more ≡ 0 → main ≡ main ++ new_hints main more
 with_none main [] none = sym (append-nil main)

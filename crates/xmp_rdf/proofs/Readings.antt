@@ -19,7 +19,8 @@ use Rattle.rdf_forms.specs.Parts.{element_at, elements_in, elements_of, name_of}
 use Rattle.rdf_forms.specs.Forms.{ByMembers, ByContainer, ByNode, form_of}
 use Rattle.rdf_forms.specs.Visits.{Visit, visit, members_holder, node_holder, member_depth, member_visits, item_visits, form_visits, property_visits}
 use Rattle.rdf_forms.specs.Values.{plain, lang_of, type_of, kind_of, by_members, node_members, element_member, formed, value_within}
-use Rattle.rdf_forms.specs.Rules.{or_else, fault_at, first_fault}
+use Rattle.std.specs.Option.{option_or}
+use Rattle.rdf_forms.specs.Rules.{fault_at, first_fault}
 use Rattle.rdf_forms.proofs.ChildLaws.{element_at-Element, element_at-Text}
 use Rattle.xmp_rdf.specs.Answering.{Fault}
 use Rattle.xmp_rdf.specs.Reading.{unless, checked, read_within, read_form, read_all, visits_in, read_members, read_items}
@@ -76,12 +77,12 @@ form-node levels depth e n =
 
 -- ---- elements one after another
 
-fault_of-append : (visits : Element → List Visit) (es fs : List Element) → first_fault (flat_map visits (es ++ fs)) ≡ or_else (first_fault (flat_map visits es)) (first_fault (flat_map visits fs))
+fault_of-append : (visits : Element → List Visit) (es fs : List Element) → first_fault (flat_map visits (es ++ fs)) ≡ option_or (first_fault (flat_map visits es)) (first_fault (flat_map visits fs))
 fault_of-append visits es fs = ap first_fault (flat_map-append visits es fs) ∙ first_fault-append (flat_map visits es) (flat_map visits fs)
 
-pub all_behind : {X : Type 0} (f g : Option Fault) (x y more : List X) → y ≡ x ++ more → unless (or_else f g) y ≡ and_then (unless f x) (λ xs. unless g (xs ++ more))
-all_behind None g x y more is = ap (unless g) is
-all_behind (Some e) g x y more is = refl
+pub all_after : {X : Type 0} (f g : Option Fault) (x y more : List X) → y ≡ x ++ more → unless (option_or f g) y ≡ and_then (unless f x) (λ xs. unless g (xs ++ more))
+all_after None g x y more is = ap (unless g) is
+all_after (Some e) g x y more is = refl
 
 pub all-append : {X : Type 0} (visits : Element → List Visit) (meaning : Element → X) (before : List X) (es fs : List Element) →
     read_all visits meaning before (es ++ fs) ≡ and_then (read_all visits meaning before es) (λ xs. read_all visits meaning xs fs)
@@ -89,7 +90,7 @@ unfolding read_all
 all-append visits meaning before es fs =
     let apart = map-append meaning es fs in
     ap (λ h. unless h (before ++ map meaning (es ++ fs))) (fault_of-append visits es fs)
-    ∙ all_behind (first_fault (flat_map visits es)) (first_fault (flat_map visits fs)) (before ++ map meaning es) (before ++ map meaning (es ++ fs)) (map meaning fs)
+    ∙ all_after (first_fault (flat_map visits es)) (first_fault (flat_map visits fs)) (before ++ map meaning es) (before ++ map meaning (es ++ fs)) (map meaning fs)
     (ap (λ ms. before ++ ms) apart ∙ sym (append_assoc before (map meaning es) (map meaning fs)))
 
 pub all-none : {X : Type 0} (visits : Element → List Visit) (meaning : Element → X) (before : List X) → read_all visits meaning before [] ≡ Ok before

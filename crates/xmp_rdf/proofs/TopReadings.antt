@@ -22,16 +22,17 @@ use Rattle.xmp_tree.specs.declared.nested.Value.{Value}
 use Rattle.xmp_tree.specs.Parts.{member}
 use Rattle.rdf_forms.specs.NameRules.{about_of, first_about}
 use Rattle.rdf_forms.specs.MemberRules.{member_names}
-use Rattle.rdf_forms.specs.Rules.{or_else, broken_in, broken, placed, fault_at, first_fault}
+use Rattle.std.specs.Option.{option_or}
+use Rattle.rdf_forms.specs.Rules.{broken_in, broken, placed, fault_at, first_fault}
 use Rattle.rdf_forms.specs.Broken.{IsTop}
 use Rattle.xmp_values.specs.declared.rules.Rule.{Rule}
 use Rattle.rdf_forms.specs.Meaning.{Placed, placed_in}
 use Rattle.rdf_forms.specs.Entering.{Holds}
 use Rattle.xmp_rdf.specs.Answering.{Fault}
 use Rattle.xmp_rdf.specs.Reading.{unless, checked_top, read_within, read_all, placed_member, read_placed, read_tops, visits_in}
-use Rattle.xmp_rdf.specs.Gathering.{IsBehind, Enters}
+use Rattle.xmp_rdf.specs.Gathering.{IsAfter, Enters}
 use Rattle.xmp_rdf.proofs.Faults.{first_fault-append, and_then, unless-and_then, unless-made}
-use Rattle.xmp_rdf.proofs.Readings.{all_behind, in-element, in-text, elements_more, elements_split}
+use Rattle.xmp_rdf.proofs.Readings.{all_after, in-element, in-text, elements_more, elements_split}
 
 -- ---- tops one after another
 
@@ -59,7 +60,7 @@ tops-append levels before earlier ts us =
     let g = first_fault (top_visits levels (earlier ++ ts) us) in
     let placed = λ (es : List Element). flat_map (placed_in levels) es in
     ap (λ h. unless h (before ++ placed (ts ++ us))) (ap first_fault (top_visits-append levels earlier ts us) ∙ first_fault-append (top_visits levels earlier ts) (top_visits levels (earlier ++ ts) us))
-    ∙ all_behind f g (before ++ placed ts) (before ++ placed (ts ++ us)) (placed us)
+    ∙ all_after f g (before ++ placed ts) (before ++ placed (ts ++ us)) (placed us)
     (ap (λ ps. before ++ ps) (flat_map-append (placed_in levels) ts us) ∙ sym (append_assoc before (placed ts) (placed us)))
 
 pub tops-none : (levels : ℕ) (before : List Placed) (earlier : List Element) → read_tops levels before earlier [] ≡ Ok before
@@ -76,8 +77,8 @@ unfolding read_tops checked_top read_all
 tops-one levels before earlier t =
     let inside = inside_top levels t in
     let members = map (placed_member levels) (elements_of t) in
-    ap (λ vs. unless (or_else (fault_at (top_visit earlier t)) (first_fault vs)) (before ++ (placed_in levels t ++ []))) (append-nil inside)
-    ∙ ap (λ ps. unless (or_else (fault_at (top_visit earlier t)) (first_fault inside)) (before ++ ps)) (append-nil (placed_in levels t))
+    ap (λ vs. unless (option_or (fault_at (top_visit earlier t)) (first_fault vs)) (before ++ (placed_in levels t ++ []))) (append-nil inside)
+    ∙ ap (λ ps. unless (option_or (fault_at (top_visit earlier t)) (first_fault inside)) (before ++ ps)) (append-nil (placed_in levels t))
     ∙ unless-and_then (fault_at (top_visit earlier t)) (first_fault inside) tt (before ++ (attributes_placed t ++ members))
     ∙ ap (λ ps. and_then (checked_top earlier t) (λ _. unless (first_fault inside) ps)) (sym (append_assoc before (attributes_placed t) members))
 
@@ -87,14 +88,14 @@ alone_about : (t : Element) (b : Bool) → bytes_eq (about_of t) [] ≡ b → co
 alone_about t true is = sym ((bytes_eq-Decides (about_of t) []).0 is)
 alone_about t false is = refl
 
-behind_about : (e t : Element) (rest more : List ℕ) (b : Bool) → bytes_eq (about_of e) [] ≡ b → more ≡ cond (bytes_eq rest []) (about_of t) rest →
+after_about : (e t : Element) (rest more : List ℕ) (b : Bool) → bytes_eq (about_of e) [] ≡ b → more ≡ cond (bytes_eq rest []) (about_of t) rest →
     cond b more (about_of e) ≡ cond (bytes_eq (cond b rest (about_of e)) []) (about_of t) (cond b rest (about_of e))
-behind_about e t rest more true is known = known
-behind_about e t rest more false is known = ap (λ b. cond b (about_of t) (about_of e)) (sym is)
+after_about e t rest more true is known = known
+after_about e t rest more false is known = ap (λ b. cond b (about_of t) (about_of e)) (sym is)
 
 first_about-more : (earlier : List Element) (t : Element) → first_about (earlier ++ t ∷ []) ≡ (if bytes_eq (first_about earlier) [] then about_of t else first_about earlier)
 first_about-more [] t = alone_about t (bytes_eq (about_of t) []) refl
-first_about-more (e ∷ es) t = behind_about e t (first_about es) (first_about (es ++ t ∷ [])) (bytes_eq (about_of e) []) refl (first_about-more es t)
+first_about-more (e ∷ es) t = after_about e t (first_about es) (first_about (es ++ t ∷ [])) (bytes_eq (about_of e) []) refl (first_about-more es t)
 
 names-more : (earlier : List Element) (t : Element) → flat_map member_names (earlier ++ t ∷ []) ≡ flat_map member_names earlier ++ member_names t
 names-more earlier t = flat_map-append member_names earlier (t ∷ []) ∙ ap (λ ns. flat_map member_names earlier ++ ns) (append-nil (member_names t))
@@ -102,10 +103,10 @@ names-more earlier t = flat_map-append member_names earlier (t ∷ []) ∙ ap (�
 pub held-more : (earlier : List Element) (t : Element) (set : List Name) → Holds set (flat_map member_names earlier ++ member_names t) → Holds set (flat_map member_names (earlier ++ t ∷ []))
 held-more earlier t set held = subst (Holds set) (sym (names-more earlier t)) held
 
-pub behind-more : (earlier : List Element) (t : Element) (first next : List ℕ) (names set : List Name) → IsBehind earlier first names →
-    next ≡ (if bytes_eq first [] then about_of t else first) → Holds set (flat_map member_names (earlier ++ t ∷ [])) → IsBehind (earlier ++ t ∷ []) next set
-behind-more earlier t first next names set behind is held = record {
-  about = is ∙ ap (λ f. if bytes_eq f [] then about_of t else f) behind.about ∙ sym (first_about-more earlier t);
+pub after-more : (earlier : List Element) (t : Element) (first next : List ℕ) (names set : List Name) → IsAfter earlier first names →
+    next ≡ (if bytes_eq first [] then about_of t else first) → Holds set (flat_map member_names (earlier ++ t ∷ [])) → IsAfter (earlier ++ t ∷ []) next set
+after-more earlier t first next names set after is held = record {
+  about = is ∙ ap (λ f. if bytes_eq f [] then about_of t else f) after.about ∙ sym (first_about-more earlier t);
   holds = held;
 }
 
@@ -116,18 +117,18 @@ pub top-checked : (earlier : List Element) (t : Element) (rule : Option Rule) �
 unfolding checked_top broken
 top-checked earlier t rule is = ap (λ r. unless (placed (place_of t) r) tt) is
 
-pub top-entered : (earlier : List Element) (t : Element) (first : List ℕ) (names set : List Name) → IsBehind earlier first names →
+pub top-entered : (earlier : List Element) (t : Element) (first : List ℕ) (names set : List Name) → IsAfter earlier first names →
     ((ns : List Name) → Holds names ns → IsTop t first ns set) → Enters earlier t (Ok tt) set
-top-entered earlier t first names set behind told =
-    let top = told (flat_map member_names earlier) behind.holds in (
-      top-checked earlier t None (ap (λ f. broken_in roles.Top 0 t f (flat_map member_names earlier)) (sym behind.about) ∙ top.unbroken),
+top-entered earlier t first names set after told =
+    let top = told (flat_map member_names earlier) after.holds in (
+      top-checked earlier t None (ap (λ f. broken_in roles.Top 0 t f (flat_map member_names earlier)) (sym after.about) ∙ top.unbroken),
       held-more earlier t set top.holds,
     )
 
-pub top-halted : (earlier : List Element) (t : Element) (first : List ℕ) (names : List Name) (rule : Rule) → IsBehind earlier first names →
+pub top-halted : (earlier : List Element) (t : Element) (first : List ℕ) (names : List Name) (rule : Rule) → IsAfter earlier first names →
     ((ns : List Name) → Holds names ns → broken_in roles.Top 0 t first ns ≡ Some rule) → checked_top earlier t ≡ Err (rule, place_of t)
-top-halted earlier t first names rule behind told =
-    top-checked earlier t (Some rule) (ap (λ f. broken_in roles.Top 0 t f (flat_map member_names earlier)) (sym behind.about) ∙ told (flat_map member_names earlier) behind.holds)
+top-halted earlier t first names rule after told =
+    top-checked earlier t (Some rule) (ap (λ f. broken_in roles.Top 0 t f (flat_map member_names earlier)) (sym after.about) ∙ told (flat_map member_names earlier) after.holds)
 
 -- ---- a child of a top
 

@@ -17,7 +17,7 @@ use Rattle.xmp_tree.proofs.Changed.{AreParted, formed_append}
 use Rattle.rdf_forms.specs.Words.{same_name}
 use Rattle.rdf_forms.specs.Entering.{Holds}
 use Rattle.rdf_forms.proofs.Clashes.{stands, stands_is, stands-held}
-use Rattle.rdf_forms.proofs.EnteredLists.{holds_behind, holds_through}
+use Rattle.rdf_forms.proofs.EnteredLists.{holds_after, holds_through}
 use Rattle.rdf_forms.specs.Merging.{stands_in, first_twice}
 
 -- the names of the first properties, and of one more
@@ -28,7 +28,7 @@ names_more ps at p within here =
 
 -- a set of names with one more
 pub holds_more : (names set new : List Name) (n : Name) → Holds set names → Holds new (set ++ n ∷ []) → Holds new (names ++ n ∷ [])
-holds_more names set new n held more = holds_through new (set ++ n ∷ []) (names ++ n ∷ []) more (holds_behind set names (n ∷ []) held)
+holds_more names set new n held more = holds_through new (set ++ n ∷ []) (names ++ n ∷ []) more (holds_after set names (n ∷ []) held)
 
 none_of : (b : Bool) (n : ℕ) → cond b (Some n) None ≡ None → b ≡ false
 none_of true n none = absurd cc

@@ -17,7 +17,7 @@ use Rattle.xmp_rdf.specs.Reading.{checked_top, read_tops}
 use Rattle.xmp_rdf.specs.Parting.{parts_of}
 
 -- a first about and a set of names are those of these tops
-pub record IsBehind (tops : List Element) (first : List ℕ) (names : List Name) : Type 0 where
+pub record IsAfter (tops : List Element) (first : List ℕ) (names : List Name) : Type 0 where
   pub about : first ≡ first_about tops
   pub holds : Holds names (flat_map member_names tops)
 
@@ -34,5 +34,5 @@ Parts (Err e) parts read = Stops place_of e (λ f. read ≡ Err f)
 -- what is kept is what tops give after earlier ones and what was read of those, unless memory ran out
 abbrev pub Gathers : ℕ → List Placed → List Element → List Element → Result (Unit {0}) PlaceStop → Gathered → Type 0
 Gathers levels before earlier tops (Ok u) g =
-    Parts (Ok u) g.parts (read_tops levels before earlier tops) × IsBehind (earlier ++ tops) (about_in g.first) g.names
+    Parts (Ok u) g.parts (read_tops levels before earlier tops) × IsAfter (earlier ++ tops) (about_in g.first) g.names
 Gathers levels before earlier tops (Err e) g = Stops place_of e (λ f. read_tops levels before earlier tops ≡ Err f)

@@ -5,7 +5,6 @@ ghost use Rattle.rdf_forms.specs.FormViews.{about_in};
 ghost use Rattle.rdf_forms.specs.NameRules.{about_of};
 
 use rdf_forms::{about_bytes, about_text};
-use std::alloc::Global;
 use xml_grammar::Element;
 use xmp_values::{Memory, Text};
 
@@ -24,11 +23,11 @@ pub fn first_about<'e, 'p>(
 }
 
 /// An about again, which is empty where there is none.
-pub fn about_again<'p>(alloc: Global, about: Option<&Text<'p>>) -> Result<Text<'p>, Memory>
+pub fn about_again<'p>(about: Option<&Text<'p>>) -> Result<Text<'p>, Memory>
     ensures { IfOk result (λ t. t ≡ about_in about.entry) }
 {
     match about {
-        Some(text) => text.try_clone(alloc),
+        Some(text) => text.try_clone(),
         None => Ok(Text::raw(b"".as_slice())),
     }
 }

@@ -44,7 +44,7 @@ fn new_hints(alloc: Global, main: &Hints, more: Hints) -> Result<Sequence<Hint>,
 }
 
 /// The hints of `main`, and after them those of `more` whose namespaces are new.
-#[tactic(auto, using(crate::proofs::HintSets::with_none, crate::proofs::HintSets::behind_none))]
+#[tactic(auto, using(crate::proofs::HintSets::with_none, crate::proofs::HintSets::after_none))]
 pub fn merge_hints(alloc: Global, main: Hints, more: Hints) -> Result<Hints, Memory>
     ensures { IfOk result (λ hs. hs ≡ main ++ new_hints main more) }
 {

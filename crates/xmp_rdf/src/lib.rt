@@ -12,13 +12,9 @@ mod laws;
 mod meanings;
 mod members;
 mod merging;
-#[cfg(test)]
-mod merging_tests;
 mod owning;
 mod parting;
 mod reading;
-#[cfg(test)]
-mod tests;
 mod texts;
 mod tops;
 mod values;

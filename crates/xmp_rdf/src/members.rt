@@ -34,8 +34,8 @@ fn one_member<'p>(alloc: Global, member: Member<'p>) -> Result<Members<'p>, Memo
 pub fn attribute_member<'p>(alloc: Global, attribute: &Attribute<'p>) -> Result<Member<'p>, Memory>
     ensures { IfOk result (λ m. m ≡ attribute_member attribute.now) }
 {
-    let name = attribute.name.try_clone(alloc)?;
-    let value = plain(alloc, attribute.value.try_clone(alloc)?);
+    let name = attribute.name.try_clone()?;
+    let value = plain(alloc, attribute.value.try_clone()?);
     Ok(Member { name, value })
 }
 
@@ -69,7 +69,7 @@ pub fn lang_of<'p>(alloc: Global, element: &Element<'p>) -> Result<Members<'p>, 
     match lang_value(element) {
         None => Ok(Members::new(alloc)),
         Some(tag) => {
-            let value = plain(alloc, tag.try_clone(alloc)?);
+            let value = plain(alloc, tag.try_clone()?);
             let name = lang_name();
             one_member(alloc, Member { name, value })
         }

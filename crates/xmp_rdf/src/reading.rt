@@ -15,10 +15,10 @@ const MOST_LEVELS: u64 = 100;
 
 /// The tree of a document, with the place of each property, its hints and its note; else the
 /// first element in the order of the document that breaks a rule, with the least rule that it
-/// breaks. The texts are those of the document, and none is copied.
-pub fn tree_of<'p>(alloc: Global, doc: &Doc<'p>) -> Result<Meaning<'p>, RdfStop>
+/// breaks. The texts are those of the document, and no byte of them is copied; the hints are moved.
+pub fn tree_of<'p>(alloc: Global, doc: Doc<'p>) -> Result<Meaning<'p>, RdfStop>
     // It is what the definitions give, unless memory runs out.
-    ensures { Gives place_of result (reading doc.now.root doc.now.declared) }
+    ensures { Gives place_of result (reading doc.entry.root doc.entry.declared) }
 {
     let Contents { about, parts } = root_contents(alloc, MOST_LEVELS, doc.root())?;
     let Parted {
@@ -27,7 +27,7 @@ pub fn tree_of<'p>(alloc: Global, doc: &Doc<'p>) -> Result<Meaning<'p>, RdfStop>
         notes,
     } = parts;
     let tree = Tree { about, props };
-    let hints = doc.declared().try_clone(alloc)?;
+    let hints = doc.into_declared();
     let note = note_digits(notes.as_slice());
     Ok(Meaning {
         tree,

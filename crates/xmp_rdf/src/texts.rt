@@ -14,7 +14,7 @@ pub fn joined<'q>(alloc: Global, first: &Text<'_>, second: &Text<'_>) -> Result<
 {
     let mut bytes = Vec::from_slice(alloc, first.bytes())?;
     bytes.extend_from_slice(second.bytes())?;
-    Ok(Text::own(Sequence::from_vec(bytes)))
+    Text::own(alloc, Sequence::from_vec(bytes))
 }
 
 /// The texts among children, joined in a copy.
@@ -27,7 +27,7 @@ fn joined_texts<'q>(alloc: Global, children: &[Child<'_>]) -> Result<Text<'q>, M
             bytes.extend_from_slice(text.bytes())?;
         }
     }
-    Ok(Text::own(Sequence::from_vec(bytes)))
+    Text::own(alloc, Sequence::from_vec(bytes))
 }
 
 /// The child as a text.
@@ -61,7 +61,7 @@ pub fn own_text<'p>(alloc: Global, element: &Element<'p>) -> Result<Text<'p>, Me
         return Ok(Text::raw(b"".as_slice()));
     }
     match only_text(children) {
-        Some(text) => text.try_clone(alloc),
+        Some(text) => text.try_clone(),
         None => joined_texts(alloc, children),
     }
 }

@@ -10,7 +10,7 @@ ghost use Rattle.rdf_forms.specs.FormViews.{about_in};
 ghost use Rattle.rdf_forms.specs.Meaning.{Placed};
 ghost use Rattle.xmp_rdf.specs.Reading.{read_placed, read_rdf, read_root};
 ghost use Rattle.xmp_rdf.specs.Parting.{parts_of};
-ghost use Rattle.xmp_rdf.specs.Gathering.{IsBehind, Enters, Parts, Gathers};
+ghost use Rattle.xmp_rdf.specs.Gathering.{IsAfter, Enters, Parts, Gathers};
 
 use crate::RdfStop;
 use crate::abouts::{about_again, first_about};
@@ -44,7 +44,7 @@ pub struct Contents<'p> {
 
 /// Enters the names of a top's properties, where the top breaks no rule after those before it.
 fn add_names<'e>(first: &[u8], names: &mut NameSet<'e>, top: &'e Element<'_>) -> Result<(), RdfStop>
-    ensures { (earlier : List ElementView) → IsBehind earlier first.now names.old → Enters earlier top.now result names.new }
+    ensures { (earlier : List ElementView) → IsAfter earlier first.now names.old → Enters earlier top.now result names.new }
 {
     match broken_top(top, first, names)? {
         None => Ok(()),
@@ -83,7 +83,7 @@ fn add_child<'p>(
     };
     let role = Role::Property(Holder::Top);
     let value = property(alloc, levels, role, member_depth(0, element), element)?;
-    let name = element.name.try_clone(alloc)?;
+    let name = element.name.try_clone()?;
     parts.push(element.at(), Member { name, value })?;
     Ok(())
 }
@@ -112,7 +112,7 @@ fn add_top<'e, 'p>(
     top: &'e Element<'p>,
 ) -> Result<(), RdfStop>
     requires { levels < 2 ^ 63 }
-    ensures { (before : List Placed) (earlier : List ElementView) → gathered.old.parts ≡ parts_of before → IsBehind earlier (about_in gathered.old.first) gathered.old.names → Gathers levels before earlier (top.now ∷ []) result gathered.new }
+    ensures { (before : List Placed) (earlier : List ElementView) → gathered.old.parts ≡ parts_of before → IsAfter earlier (about_in gathered.old.first) gathered.old.names → Gathers levels before earlier (top.now ∷ []) result gathered.new }
 {
     add_names(about_bytes(gathered.first), &mut gathered.names, top)?;
     add_attributes(alloc, &mut gathered.parts, top)?;
@@ -131,7 +131,7 @@ fn add_top_at<'e, 'p>(
     child: &'e Child<'p>,
 ) -> Result<(), RdfStop>
     requires { levels < 2 ^ 63 }
-    ensures { (before : List Placed) (earlier : List ElementView) → gathered.old.parts ≡ parts_of before → IsBehind earlier (about_in gathered.old.first) gathered.old.names → Gathers levels before earlier (elements_in (child.now ∷ [])) result gathered.new }
+    ensures { (before : List Placed) (earlier : List ElementView) → gathered.old.parts ≡ parts_of before → IsAfter earlier (about_in gathered.old.first) gathered.old.names → Gathers levels before earlier (elements_in (child.now ∷ [])) result gathered.new }
 {
     match child {
         Child::Element(top) => add_top(alloc, levels, gathered, top),
@@ -147,7 +147,7 @@ fn add_tops<'e, 'p>(
     children: &'e [Child<'p>],
 ) -> Result<(), RdfStop>
     requires { levels < 2 ^ 63 }
-    ensures { gathered.old.parts ≡ parts_of [] → IsBehind [] (about_in gathered.old.first) gathered.old.names → Gathers levels [] [] (elements_in children.now) result gathered.new }
+    ensures { gathered.old.parts ≡ parts_of [] → IsAfter [] (about_in gathered.old.first) gathered.old.names → Gathers levels [] [] (elements_in children.now) result gathered.new }
 {
     for child in children {
         add_top_at(alloc, levels, gathered, child)?;
@@ -167,7 +167,7 @@ fn rdf_contents<'p>(alloc: Global, levels: u64, rdf: &Element<'p>) -> Result<Con
         parts: Parted::new(alloc),
     };
     add_tops(alloc, levels, &mut gathered, rdf.children.as_slice())?;
-    let about = about_again(alloc, gathered.first)?;
+    let about = about_again(gathered.first)?;
     Ok(Contents {
         about,
         parts: gathered.parts,

@@ -35,9 +35,9 @@ pub fn by_attributes<'p>(alloc: Global, element: &Element<'p>) -> Result<Value<'
     let mut quals = lang_of(alloc, element)?;
     let members = own_members(alloc, element)?;
     let shape = if let Some(text) = rdf_value(b"value".as_slice(), element) {
-        Shape::Simple(text.try_clone(alloc)?)
+        Shape::Simple(text.try_clone()?)
     } else if let Some(uri) = rdf_value(b"resource".as_slice(), element) {
-        Shape::Uri(uri.try_clone(alloc)?)
+        Shape::Uri(uri.try_clone()?)
     } else {
         let shape = Shape::Struct(members);
         return Ok(Value { shape, quals });

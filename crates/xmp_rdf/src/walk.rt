@@ -210,7 +210,7 @@ fn add_member<'p>(
     };
     let role = Role::Property(holder);
     let value = property(alloc, levels, role, member_depth(depth, element), element)?;
-    let name = element.name.try_clone(alloc)?;
+    let name = element.name.try_clone()?;
     members.push(Member { name, value })?;
     Ok(())
 }

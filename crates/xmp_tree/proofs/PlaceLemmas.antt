@@ -10,19 +10,10 @@ use Rattle.std.proofs.lemmas.List.Quantifiers.{position-Some}
 use Rattle.std.proofs.lemmas.List.Sums.{fails_before_first}
 use Rattle.std.proofs.lemmas.Option.{get_or_from_slice_get}
 use Rattle.xmp_values.specs.declared.text.Name.{Name}
+pub use Rattle.xmp_values.proofs.SameNames.{same_name_is}
 use Rattle.xmp_tree.specs.declared.nested.Member.{Member}
 use Rattle.xmp_tree.specs.Wf.{name_of}
 use Rattle.xmp_tree.specs.Places.{same_name, place_of}
-
-pub same_name_is : (m n : Name) → (same_name m n ≡ true) ↔ (m ≡ n)
-unfolding same_name
-same_name_is m n = (
-  λ h. let both = and_parts (bytes_eq m.space n.space) (bytes_eq m.local n.local) h in
-      let space = (bytes_eq-Decides m.space n.space).0 both.0 in
-      let local = (bytes_eq-Decides m.local n.local).0 both.1 in
-      λ i. record { space = space i; local = local i },
-  λ e. and_from _ _ ((bytes_eq-Decides m.space n.space).1 (ap (λ (k : Name). k.space) e)) ((bytes_eq-Decides m.local n.local).1 (ap (λ (k : Name). k.local) e)),
-)
 
 -- what stands at the place of a name has it
 pub found : (name : Name) (ms : List Member) (i : ℕ) (m : Member) → place_of name ms ≡ Some i → slice_get ms i ≡ Some m → (i < length ms) × (name_of m ≡ name)

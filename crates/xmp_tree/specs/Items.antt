@@ -15,6 +15,6 @@ abbrev pub item_put : List Value → ℕ → Option Value → List Value
 item_put vs i (Some v) = slice_set vs i v
 item_put vs i None = remove vs i
 
--- a new member is put in front of the others, or behind them
+-- a new member is put in front of the others, or after them
 abbrev pub joined : Bool → List Member → Member → List Member
 joined front ms m = if front then m ∷ ms else ms ++ m ∷ []

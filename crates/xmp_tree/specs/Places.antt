@@ -3,14 +3,12 @@
 use Rattle.std.specs.Prelude.{ℕ, Bool, false, ◌&&◌, List, Option, Some, None, option_map, option_and_then, find, position}
 use Rattle.std.specs.Str.{bytes_eq, str_eq_ignore_ascii_case}
 use Rattle.xmp_values.specs.declared.text.Name.{Name}
+unfoldable pub use Rattle.xmp_values.specs.Names.{same_name}
 use Rattle.xmp_tree.specs.declared.nested.Value.{Value, out-Value}
 use Rattle.xmp_tree.specs.declared.nested.Member.{Member}
 use Rattle.xmp_tree.specs.declared.nested.Shape.{Shape, Shape-F, out-Shape}
 use Rattle.xmp_tree.specs.declared.nested.Shape.TheOpen as layer
 use Rattle.xmp_tree.specs.Wf.{name_of, value_of, lang_name}
-
-unfoldable pub same_name : Name → Name → Bool
-same_name m n = bytes_eq m.space n.space && bytes_eq m.local n.local
 
 -- the place of the first member of a name
 abbrev pub place_of : Name → List Member → Option ℕ

@@ -9,7 +9,7 @@ pub fn copy_text<'q>(alloc: Global, text: &Text<'_>) -> Result<Text<'q>, Memory>
     ensures { IfOk result (λ c. c ≡ text.now) }
 {
     let bytes = Bytes::from_slice(alloc, text.bytes())?;
-    Ok(Text::own(bytes))
+    Text::own(alloc, bytes)
 }
 
 /// An equal name that owns its texts.

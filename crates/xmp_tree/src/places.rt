@@ -177,7 +177,7 @@ pub fn refill_item<'p>(items: Items<'p>, at: usize, given: Option<Value<'p>>) ->
     items
 }
 
-/// Puts a member in front of the others, or behind them.
+/// Puts a member in front of the others, or after them.
 pub fn join<'p>(front: bool, members: &mut Members<'p>, member: Member<'p>) -> Result<(), Memory>
     ensures { OnOk result (members.new ≡ joined front members.old member.entry) }
 {

@@ -5,56 +5,98 @@ use xmp_values::{Bytes, Memory, Name, Text};
 
 const DC: &str = "http://purl.org/dc/elements/1.1/";
 
-/// Lists of members, and whether each may be the properties of a tree, the qualifiers of a value,
-/// `both` or `none`. A member is its namespace's prefix, its local part, `uri` where it isn't a
-/// simple text, and its text, parted by spaces.
-const LISTS: &str = "dc format text image/jpeg|both;\
-dc  text x|none;\
-dc 1a text x|none;\
-dc -a text x|none;\
-dc dc:a text x|none;\
-dc \u{E9}t\u{E9}-1 text x|both;\
-dc \u{D7} text x|none;\
-none a text x|none;\
-bad a text x|none;\
-rdf value text x|none;\
-xmlns a text x|none;\
-xml lang text en|quals;\
-xml lang uri en|none;\
-xml base text x|none;\
-rdf type uri urn:t|quals;\
-rdf type text urn:t|none;\
-note HasExtendedXMP text x|quals;\
-note Other text x|both;\
-dc a text \t\n\r\u{D7FF}\u{E000}\u{FFFD}\u{10FFFF}|both;\
-dc a text \u{FFFE}|none;\
-dc a text \u{0}|none;\
-dc a uri \u{B}|none;\
-dc a text x,dc b text x,note a text x|both;\
-dc a text x,dc b text x,dc a text x|none;\
-dc b text x,dc a text x,dc a text x|none;\
-xml lang text en,dc a text x,rdf type uri urn:t|quals;\
-dc a text x,xml lang text en|none;\
-xml lang text en,dc a text x,xml lang text de|none";
+const RDF: &str = "http://www.w3.org/1999/02/22-rdf-syntax-ns#";
 
-fn space_of(prefix: &str) -> &'static str {
-    if prefix == "dc" {
-        return DC;
-    }
-    if prefix == "rdf" {
-        return "http://www.w3.org/1999/02/22-rdf-syntax-ns#";
-    }
-    if prefix == "xml" {
-        return "http://www.w3.org/XML/1998/namespace";
-    }
-    if prefix == "xmlns" {
-        return "http://www.w3.org/2000/xmlns/";
-    }
-    if prefix == "note" {
-        return "http://ns.adobe.com/xmp/note/";
-    }
-    if prefix == "bad" { "urn:\u{1}" } else { "" }
-}
+const XML: &str = "http://www.w3.org/XML/1998/namespace";
+
+const XMLNS: &str = "http://www.w3.org/2000/xmlns/";
+
+const NOTE: &str = "http://ns.adobe.com/xmp/note/";
+/// A namespace with a character that XML doesn't have.
+const BAD: &str = "urn:\u{1}";
+
+/// A namespace, a local part, whether the text is a URI, and the text.
+type Said = (&'static str, &'static str, bool, &'static str);
+
+/// Lists of members, and whether each may be the properties of a tree, and the qualifiers of a value.
+const LISTS: [(&[Said], bool, bool); 28] = [
+    (&[(DC, "format", false, "image/jpeg")], true, true),
+    (&[(DC, "", false, "x")], false, false),
+    (&[(DC, "1a", false, "x")], false, false),
+    (&[(DC, "-a", false, "x")], false, false),
+    (&[(DC, "dc:a", false, "x")], false, false),
+    (&[(DC, "\u{E9}t\u{E9}-1", false, "x")], true, true),
+    (&[(DC, "\u{D7}", false, "x")], false, false),
+    (&[("", "a", false, "x")], false, false),
+    (&[(BAD, "a", false, "x")], false, false),
+    (&[(RDF, "value", false, "x")], false, false),
+    (&[(XMLNS, "a", false, "x")], false, false),
+    (&[(XML, "lang", false, "en")], false, true),
+    (&[(XML, "lang", true, "en")], false, false),
+    (&[(XML, "base", false, "x")], false, false),
+    (&[(RDF, "type", true, "urn:t")], false, true),
+    (&[(RDF, "type", false, "urn:t")], false, false),
+    (&[(NOTE, "HasExtendedXMP", false, "x")], false, true),
+    (&[(NOTE, "Other", false, "x")], true, true),
+    (
+        &[(DC, "a", false, "\t\n\r\u{D7FF}\u{E000}\u{FFFD}\u{10FFFF}")],
+        true,
+        true,
+    ),
+    (&[(DC, "a", false, "\u{FFFE}")], false, false),
+    (&[(DC, "a", false, "\u{0}")], false, false),
+    (&[(DC, "a", true, "\u{B}")], false, false),
+    (
+        &[
+            (DC, "a", false, "x"),
+            (DC, "b", false, "x"),
+            (NOTE, "a", false, "x"),
+        ],
+        true,
+        true,
+    ),
+    (
+        &[
+            (DC, "a", false, "x"),
+            (DC, "b", false, "x"),
+            (DC, "a", false, "x"),
+        ],
+        false,
+        false,
+    ),
+    (
+        &[
+            (DC, "b", false, "x"),
+            (DC, "a", false, "x"),
+            (DC, "a", false, "x"),
+        ],
+        false,
+        false,
+    ),
+    (
+        &[
+            (XML, "lang", false, "en"),
+            (DC, "a", false, "x"),
+            (RDF, "type", true, "urn:t"),
+        ],
+        false,
+        true,
+    ),
+    (
+        &[(DC, "a", false, "x"), (XML, "lang", false, "en")],
+        false,
+        false,
+    ),
+    (
+        &[
+            (XML, "lang", false, "en"),
+            (DC, "a", false, "x"),
+            (XML, "lang", false, "de"),
+        ],
+        false,
+        false,
+    ),
+];
 
 fn member(
     alloc: Global,
@@ -80,36 +122,26 @@ fn member(
     }
 }
 
-fn members_of(alloc: Global, list: &'static str) -> Result<Members<'static>, Memory> {
+fn members_of(alloc: Global, list: &[Said]) -> Result<Members<'static>, Memory> {
     let mut members = Members::new(alloc);
-    for item in list.split(',') {
-        let mut words = item.split(' ');
-        let space = space_of(words.next().unwrap_or(""));
-        let local = words.next().unwrap_or("");
-        let uri = words.next().unwrap_or("") == "uri";
-        let text = words.next().unwrap_or("");
-        members.push(member(alloc, space, local, uri, text))?;
+    for (space, local, uri, text) in list {
+        members.push(member(alloc, space, local, *uri, text))?;
     }
     Ok(members)
 }
 
-/// Whether the tests answer of a row's members what the row says.
-fn is_as_said(alloc: Global, row: &'static str) -> Result<bool, Memory> {
-    let Some((list, want)) = row.split_once('|') else {
-        return Ok(false);
-    };
+/// Whether a list of members is taken as properties and as qualifiers as said.
+fn is_as_said(alloc: Global, list: &[Said], props: bool, quals: bool) -> Result<bool, Memory> {
     let members = members_of(alloc, list)?;
-    let props = is_well_formed(alloc, &Text::raw(b""), members.as_slice())?;
-    let quals = are_well_formed_qualifiers(alloc, members.as_slice(), 1)?;
-    let said_props = want == "both" || want == "props";
-    let said_quals = want == "both" || want == "quals";
-    Ok(props == said_props && quals == said_quals)
+    let are_props = is_well_formed(alloc, &Text::raw(b""), members.as_slice())?;
+    let are_quals = are_well_formed_qualifiers(alloc, members.as_slice(), 1)?;
+    Ok(are_props == props && are_quals == quals)
 }
 
 #[test]
 fn lists_of_members_are_tested(rt: HostRuntime) -> Result<(), Fail> {
-    for row in LISTS.split(';') {
-        assert!(rt; is_as_said(rt.alloc(), row)?, "{row}");
+    for (list, props, quals) in LISTS {
+        assert!(rt; is_as_said(rt.alloc(), list, props, quals)?, "{list:?}");
     }
     Ok(())
 }
@@ -163,14 +195,14 @@ fn numbered(alloc: Global, count: usize) -> Result<Members<'static>, Fail> {
     for i in 0..count {
         let local = format!(in alloc; "p{i}")?;
         let number = format!(in alloc; "{i}")?;
-        let shape = Shape::Simple(Text::own(Bytes::from_slice(alloc, number.as_bytes())?));
+        let shape = Shape::Simple(Text::own(alloc, Bytes::from_slice(alloc, number.as_bytes())?)?);
         let value = Value {
             shape,
             quals: Members::new(alloc),
         };
         let name = Name {
             space: Text::raw(DC.as_bytes()),
-            local: Text::own(Bytes::from_slice(alloc, local.as_bytes())?),
+            local: Text::own(alloc, Bytes::from_slice(alloc, local.as_bytes())?)?,
         };
         members.push(Member { name, value })?;
     }

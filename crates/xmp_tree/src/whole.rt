@@ -6,7 +6,7 @@ use crate::equals::equal_members;
 use crate::nested::Members;
 use std::alloc::Global;
 use std::marker::Model;
-use xmp_values::{Bytes, Memory, Sequence, Text};
+use xmp_values::{Memory, Sequence, Text};
 
 /// A tree of properties (ISO 16684-1, clause 6): an about, and a list of names with values. It is
 /// well-formed wherever it is, so that the literal asks for a proof; `checked` tests in its place.
@@ -53,7 +53,7 @@ pub fn empty<'p>(alloc: Global) -> Tree<'p>
     ensures { result ≡ record { about = []; props = [] } }
 {
     Tree {
-        about: Text::own(Bytes::new(alloc)),
+        about: Text::raw(b"".as_slice()),
         props: Sequence::new(alloc),
     }
 }

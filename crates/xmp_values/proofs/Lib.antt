@@ -1,5 +1,6 @@
 pub mod CharacterTexts
 pub mod HintMaps
 pub mod NameSets
+pub mod SameNames
 pub mod TextPlaces
 mod ValidHints

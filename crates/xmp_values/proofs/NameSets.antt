@@ -76,8 +76,8 @@ added_front k ks n = (
   λ h. ⊎_elim (contains_tail (name_at k) (names_of ks) n) (λ e. contains_head (name_at k) (names_of ks) n (sym e)) h,
 )
 
-added_behind : (k x : Key) (xs more : List Key) → Adds xs k more → Adds (x ∷ xs) k (x ∷ more)
-added_behind k x xs more adds n = (
+added_after : (k x : Key) (xs more : List Key) → Adds xs k more → Adds (x ∷ xs) k (x ∷ more)
+added_after k x xs more adds n = (
   λ h. ⊎_elim
       (λ there. ⊎_elim (λ old. inl (contains_tail (name_at x) (names_of xs) n old)) inr ((adds n).0 there))
       (λ here. inl (contains_head (name_at x) (names_of xs) n here))
@@ -95,9 +95,9 @@ added_none k x xs same n =
 
 placed : (k x : Key) (xs : List Key) (o : Ordering) → o ≡ key_cmp k x → Adds xs k (insert_key key_cmp xs k) →
     Adds (x ∷ xs) k (match_ordering o (k ∷ x ∷ xs) (x ∷ xs) (x ∷ insert_key key_cmp xs k))
-placed k x xs Less e behind = added_front k (x ∷ xs)
-placed k x xs Equal e behind = added_none k x xs ((ties k x).0 (sym e))
-placed k x xs Greater e behind = added_behind k x xs (insert_key key_cmp xs k) behind
+placed k x xs Less e after = added_front k (x ∷ xs)
+placed k x xs Equal e after = added_none k x xs ((ties k x).0 (sym e))
+placed k x xs Greater e after = added_after k x xs (insert_key key_cmp xs k) after
 
 added : (k : Key) (ks : List Key) → Adds ks k (insert_key key_cmp ks k)
 added k [] = added_front k []

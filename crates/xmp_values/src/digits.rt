@@ -77,11 +77,4 @@ impl Digits {
     {
         Digits { held: self.held }
     }
-
-    /// `copy`, by its former name.
-    pub fn again(&self) -> Digits
-        ensures { result ≡ self.now }
-    {
-        self.copy()
-    }
 }

@@ -34,9 +34,7 @@ pub use memory::Memory;
 pub use names::{NameSet, Named, names_differ};
 pub use rules::Rule;
 pub use sequence::{Bytes, Sequence};
-pub use spaces::{
-    is_rdf_namespace, is_rdf_space, is_xml_namespace, is_xml_space, is_xmlns_namespace,
-};
+pub use spaces::{is_rdf_namespace, is_xml_namespace, is_xmlns_namespace};
 pub use span::Span;
 pub use stops::{DeviceStop, FaultStop, FileStop, PlaceStop, RuleStop};
 pub use text::{Name, Text};

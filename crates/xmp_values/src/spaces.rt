@@ -25,17 +25,3 @@ pub fn is_xmlns_namespace(space: &[u8]) -> bool
 {
     space == b"http://www.w3.org/2000/xmlns/".as_slice()
 }
-
-/// `is_rdf_namespace`, by its former name.
-pub fn is_rdf_space(space: &[u8]) -> bool
-    ensures { IsTrue result ↔ (space.now ≡ rdf_space) }
-{
-    is_rdf_namespace(space)
-}
-
-/// `is_xml_namespace`, by its former name.
-pub fn is_xml_space(space: &[u8]) -> bool
-    ensures { IsTrue result ↔ (space.now ≡ xml_space) }
-{
-    is_xml_namespace(space)
-}

@@ -5,7 +5,7 @@ use std::alloc::Global;
 use std::marker::Model;
 use std::rc::Rc;
 
-/// A text of the file, or one of its own. Contracts see its bytes.
+/// A text of the file, or one with owners of its own. Contracts see its bytes.
 #[derive(Drop)]
 pub struct Text<'p> {
     kept: Kept<'p>,
@@ -14,8 +14,7 @@ pub struct Text<'p> {
 #[derive(Drop)]
 enum Kept<'p> {
     Raw(&'p [u8]),
-    Own(Bytes),
-    Shared(Rc<Bytes>),
+    Own(Rc<Bytes>),
 }
 
 impl<'p> Model for Text<'p> {
@@ -38,13 +37,14 @@ impl<'p> Text<'p> {
         }
     }
 
-    /// A text that owns its bytes.
-    pub fn own(bytes: Bytes) -> Text<'p>
-        ensures { result ≡ bytes }
+    /// A text that owns its bytes, alone until it is cloned.
+    pub fn own(alloc: Global, bytes: Bytes) -> Result<Text<'p>, Memory>
+        ensures { IfOk result (λ t. t ≡ bytes) }
     {
-        Text {
-            kept: Kept::Own(bytes),
-        }
+        let owner = Rc::new(alloc, bytes)?;
+        Ok(Text {
+            kept: Kept::Own(owner),
+        })
     }
 
     /// The bytes.
@@ -53,41 +53,21 @@ impl<'p> Text<'p> {
     {
         match &self.kept {
             Kept::Raw(bytes) => bytes,
-            Kept::Own(bytes) => bytes.as_slice(),
-            Kept::Shared(bytes) => bytes.as_ref().as_slice(),
+            Kept::Own(bytes) => bytes.as_ref().as_slice(),
         }
     }
 
-    /// The same text, of which `try_clone` copies no byte from now on.
-    pub fn shared(self, alloc: Global) -> Result<Text<'p>, Memory>
-        ensures { IfOk result (λ t. t ≡ self.entry) }
-    {
-        let kept = match self.kept {
-            Kept::Own(bytes) => Kept::Shared(Rc::new(alloc, bytes)?),
-            kept => kept,
-        };
-        Ok(Text { kept })
-    }
-
-    /// The same text again. A text of the file is only borrowed once more, and a shared one gets one
-    /// more owner; one that owns its bytes is copied.
-    pub fn try_clone(&self, alloc: Global) -> Result<Text<'p>, Memory>
+    /// The same text again. No byte is copied: a text of the file is borrowed once more, and the bytes of
+    /// another get one more owner.
+    pub fn try_clone(&self) -> Result<Text<'p>, Memory>
         ensures { IfOk result (λ t. t ≡ self.now) }
     {
         match &self.kept {
             Kept::Raw(bytes) => Ok(Text::raw(bytes)),
-            Kept::Own(bytes) => Ok(Text::own(Bytes::from_slice(alloc, bytes.as_slice())?)),
-            Kept::Shared(bytes) => Ok(Text {
-                kept: Kept::Shared(bytes.clone()?),
+            Kept::Own(bytes) => Ok(Text {
+                kept: Kept::Own(bytes.clone()?),
             }),
         }
-    }
-
-    /// `try_clone`, by its former name.
-    pub fn again(&self, alloc: Global) -> Result<Text<'p>, Memory>
-        ensures { IfOk result (λ t. t ≡ self.now) }
-    {
-        self.try_clone(alloc)
     }
 
     /// Whether the texts have the same bytes.
@@ -107,11 +87,11 @@ pub struct Name<'p> {
 
 impl<'p> Name<'p> {
     /// The same name again, its texts as by `Text::try_clone`.
-    pub fn try_clone(&self, alloc: Global) -> Result<Name<'p>, Memory>
+    pub fn try_clone(&self) -> Result<Name<'p>, Memory>
         ensures { IfOk result (λ n. n ≡ self.now) }
     {
-        let space = self.space.try_clone(alloc)?;
-        let local = self.local.try_clone(alloc)?;
+        let space = self.space.try_clone()?;
+        let local = self.local.try_clone()?;
         Ok(Name { space, local })
     }
 
@@ -121,12 +101,5 @@ impl<'p> Name<'p> {
     {
         // The local part first: it alone tells most names apart.
         self.local.same_text(&other.local) && self.space.same_text(&other.space)
-    }
-
-    /// `same_name`, by its former name.
-    pub fn is_same(&self, other: &Name<'_>) -> bool
-        ensures { IsTrue result ↔ (self.now ≡ other.now) }
-    {
-        self.same_name(other)
     }
 }

@@ -16,7 +16,6 @@ fn ends(alloc: Global, words: &str, line: &str) -> Result<bool, Memory> {
 #[test]
 fn commands_that_are_not_built_are_refused(rt: HostRuntime) -> Result<(), Fail> {
     for words in [
-        "patch a.xmp script",
         "reconcile a.xmp b.xmp",
         "check none.xmp",
         "demo 1",

@@ -9,7 +9,7 @@ use xmp_values::Memory;
 const HEADER: &str = "<?xpacket begin=\"\u{FEFF}\" id=\"W5M0MpCehiHzreSzNTczkc9d\"?>\n";
 
 /// The tree of `PHOTO` with another format.
-const TIFF: &str = "<x:xmpmeta xmlns:x=\"adobe:ns:meta/\">
+pub const TIFF: &str = "<x:xmpmeta xmlns:x=\"adobe:ns:meta/\">
 <rdf:RDF xmlns:rdf=\"http://www.w3.org/1999/02/22-rdf-syntax-ns#\">
 <rdf:Description rdf:about=\"\" xmlns:dc=\"http://purl.org/dc/elements/1.1/\">
 <dc:format>image/tiff</dc:format>

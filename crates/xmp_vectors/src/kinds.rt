@@ -65,7 +65,7 @@ fn files_of_no_kind_are_refused(rt: HostRuntime) -> Result<(), Fail> {
     Ok(())
 }
 
-/// Whether `get` and `tree` of a file of this length, which begins so and is zeros behind that,
+/// Whether `get` and `tree` of a file of this length, which begins so and is zeros after that,
 /// both end with this line, and send no text.
 fn both_refuse_length(
     alloc: Global,

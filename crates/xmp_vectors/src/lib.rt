@@ -12,12 +12,16 @@ mod devices;
 #[cfg(test)]
 mod editing;
 #[cfg(test)]
+mod extended;
+#[cfg(test)]
 mod failing;
 mod files;
 #[cfg(test)]
 mod kinds;
 #[cfg(test)]
 mod made_trees;
+#[cfg(test)]
+mod patching;
 #[cfg(test)]
 mod photographs;
 #[cfg(test)]

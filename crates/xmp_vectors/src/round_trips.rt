@@ -53,7 +53,7 @@ fn written(
 /// What a text means, if it has a document that breaks no rule.
 fn meaning<'p>(alloc: Global, text: &'p [u8]) -> Option<Meaning<'p>> {
     match read(alloc, text) {
-        Ok(doc) => tree_of(alloc, &doc).ok(),
+        Ok(doc) => tree_of(alloc, doc).ok(),
         Err(_) => None,
     }
 }
@@ -88,7 +88,7 @@ fn means_whole<'p>(alloc: Global, packet: &'p [u8], text: &'p [u8], tree: &Tree<
     }
 }
 
-/// Whether a tree that is written as two texts, cut behind so many properties, is merged again.
+/// Whether a tree that is written as two texts, cut after so many properties, is merged again.
 fn merges_again(
     alloc: Global,
     tree: &Tree<'_>,

@@ -97,7 +97,7 @@ pub fn split<'t>(alloc: Global, line: &'t str) -> Result<Vec<&'t str>, AllocErro
     Ok(words)
 }
 
-fn words_of(alloc: Global, list: &[&str]) -> Result<Words, Memory> {
+pub fn words_of(alloc: Global, list: &[&str]) -> Result<Words, Memory> {
     let mut words = Words::new(alloc);
     for word in list {
         words.push(word)?;
@@ -113,7 +113,7 @@ fn desk_of(alloc: Global) -> Result<MemoryDesk, Memory> {
     Ok(desk)
 }
 
-fn sink_of(alloc: Global, fails: u64) -> Result<MemorySink, Memory> {
+pub fn sink_of(alloc: Global, fails: u64) -> Result<MemorySink, Memory> {
     let mut sink = MemorySink::new(alloc);
     if fails > 0 {
         sink.fail(fails)?;
@@ -236,7 +236,7 @@ pub fn run_edit(
     })
 }
 
-/// Runs the words over `a.xmp` of this length, which begins so and is zeros behind that.
+/// Runs the words over `a.xmp` of this length, which begins so and is zeros after that.
 pub fn run_length(alloc: Global, list: &[&str], front: &[u8], length: u64) -> Result<Ran, Memory> {
     let words = words_of(alloc, list)?;
     let mut desk = SparseDesk::new(alloc, "a.xmp", length)?;

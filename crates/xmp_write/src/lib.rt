@@ -14,9 +14,9 @@ mod placing;
 mod prefixes;
 mod splits;
 #[cfg(test)]
-mod text_tests;
+mod test_trees;
 #[cfg(test)]
-mod tree_tests;
+mod tests;
 mod uses;
 mod values;
 mod writing;

@@ -14,13 +14,13 @@ use crate::placing::{
 use crate::prefixes::Prefixes;
 use xmp_lanes::Escape;
 use xmp_tree::{Kind, Member, Shape, Value};
-use xmp_values::{Name, is_xml_space};
+use xmp_values::{Name, is_xml_namespace};
 
 /// Whether the name is `xml:lang`, which is written as an attribute.
 fn is_tag(name: &Name<'_>) -> bool
     ensures { result ≡ is_tag name.now }
 {
-    is_xml_space(name.space.bytes()) && name.local.bytes() == b"lang".as_slice()
+    is_xml_namespace(name.space.bytes()) && name.local.bytes() == b"lang".as_slice()
 }
 
 /// The text of a simple value; none of others.

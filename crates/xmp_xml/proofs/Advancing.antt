@@ -10,9 +10,9 @@ use Rattle.xml_grammar.specs.declared.tokens.Mode.{Mode}
 use Rattle.xml_grammar.specs.declared.tokens.Token.{Token}
 use Rattle.xml_grammar.specs.declared.tokens.Token.TheVariants as tokens
 use Rattle.xml_grammar.specs.Pieces.{Character, HasPiece}
-use Rattle.xml_grammar.specs.Rows.{StandsRow, later, pieces_of, IsSpelled}
+use Rattle.xml_tokenizer.specs.Rows.{StandsRow, later, pieces_of, IsSpelled}
 use Rattle.xml_grammar.specs.Nesting.{mode_of, mode_in}
-use Rattle.xml_grammar.specs.Documents.{width, behind_mark, IsDocument, IsFault}
+use Rattle.xml_grammar.specs.Documents.{width, after_mark, IsDocument, IsFault}
 use Rattle.xml_tokenizer.specs.Stands.{IsRuleIn}
 use Rattle.xmp_values.specs.declared.stops.RuleStop.{RuleStop}
 use Rattle.xmp_values.specs.declared.stops.RuleStop.TheVariants as rule_stops
@@ -99,14 +99,14 @@ pub width_is : (text : List ℕ) → IsUtf8 text → width (chars text) ≡ leng
 width_is text u = ap length (encodes-chars text u)
 
 -- what is left after a mark
-pub mark_within : (text rest : List ℕ) → IsUtf8 text → IsUtf8 rest → chars rest ≡ behind_mark (chars text) → length rest ≤ length text
+pub mark_within : (text rest : List ℕ) → IsUtf8 text → IsUtf8 rest → chars rest ≡ after_mark (chars text) → length rest ≤ length text
 mark_within text rest u v e =
-    let r : width (behind_mark (chars text)) ≡ length rest = ap width (sym e) ∙ width_is rest v in
+    let r : width (after_mark (chars text)) ≡ length rest = ap width (sym e) ∙ width_is rest v in
     let t = width_is text u in
     let w = unmarked (chars text) in
     omega arith
   where
-    unmarked : (cs : List ℕ) → width (behind_mark cs) ≤ width cs
+    unmarked : (cs : List ℕ) → width (after_mark cs) ≤ width cs
     unmarked [] = omega arith
     unmarked (c ∷ cs) = by (eqb c 0xFEFF)
       where

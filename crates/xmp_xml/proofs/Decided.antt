@@ -12,9 +12,9 @@ use Rattle.xml_grammar.specs.declared.elements.Element.{Element}
 use Rattle.xml_grammar.specs.declared.tokens.Mode.{Mode}
 use Rattle.xml_grammar.specs.declared.tokens.Token.{Token}
 use Rattle.xml_grammar.specs.Pieces.{Piece}
-use Rattle.xml_grammar.specs.Rows.{StandsRow, later, pieces_of, IsSpelled}
+use Rattle.xml_tokenizer.specs.Rows.{StandsRow, later, pieces_of, IsSpelled}
 use Rattle.xml_grammar.specs.Nesting.{mode_of}
-use Rattle.xml_grammar.specs.Documents.{width, behind_mark, IsDocument, IsUtf16, IsFault}
+use Rattle.xml_grammar.specs.Documents.{width, after_mark, IsDocument, IsUtf16, IsFault}
 use Rattle.xml_grammar.proofs.OnePiece.{stands_some}
 use Rattle.xml_grammar.proofs.Splits.{both, not_both}
 use Rattle.xml_tokenizer.specs.Faults.{rule_at}
@@ -117,5 +117,5 @@ decided text = by (marked text) (is_utf8 text) refl
   where
     by : IsUtf16 text ⊎ (IsUtf16 text → ⊥) → (b : Bool) → is_utf8 text ≡ b → IsDecided text
     by (inl h) b e = inr (Utf16, 0, (h, refl))
-    by (inr h) true e = walk (length (behind_mark (chars text))) text (behind_mark (chars text)) start (IsUtf8-from_is_utf8 text e) (reached_start text) (omega arith)
+    by (inr h) true e = walk (length (after_mark (chars text))) text (after_mark (chars text)) start (IsUtf8-from_is_utf8 text e) (reached_start text) (omega arith)
     by (inr h) false e = inr (NotUtf8, utf8_valid_len text, (h, (λ u. not_both (is_utf8 text) (is_utf8-from_IsUtf8 text u) e), refl))

@@ -13,12 +13,12 @@ use Rattle.xml_grammar.specs.declared.elements.Element.{Element}
 use Rattle.xml_grammar.specs.declared.tokens.Token.{Token}
 use Rattle.xml_grammar.specs.declared.tokens.Token.TheVariants as tokens
 use Rattle.xml_grammar.specs.Pieces.{Piece, Declaration, Instruction, Comment, Cdata, Start, End, Reference, LineEnd, Character}
-use Rattle.xml_grammar.specs.Rows.{StandsRow}
+use Rattle.xml_tokenizer.specs.Rows.{StandsRow}
 use Rattle.xml_grammar.specs.Nesting as nesting
 use Rattle.xml_grammar.specs.Nesting.{Nest, Level, mode_of, is_outside, broken}
 use Rattle.xml_grammar.specs.Trees.{events, events_of, put, first_hints}
 use Rattle.xml_grammar.specs.Documents.{width, IsDocument}
-use Rattle.xml_grammar.proofs.Rows.{IsRunFree}
+use Rattle.xml_tokenizer.proofs.RunPieces.{IsRunFree}
 use Rattle.xmp_xml.specs.declared.builder.Frame.{Frame}
 use Rattle.xmp_xml.specs.declared.builder.Builder.{Builder}
 use Rattle.xmp_xml.specs.Building.{is_nil, levels_of, is_rooted, nest_of, with_text, after}

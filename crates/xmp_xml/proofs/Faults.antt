@@ -13,11 +13,12 @@ use Rattle.xml_grammar.specs.declared.tokens.Mode.TheVariants as modes
 use Rattle.xml_grammar.specs.declared.tokens.Token.{Token}
 use Rattle.xml_grammar.specs.declared.tokens.Token.TheVariants as tokens
 use Rattle.xml_grammar.specs.Pieces.{Piece, Declaration, Instruction, Comment, Cdata, Start, End, Reference, LineEnd, Character}
-use Rattle.xml_grammar.specs.Rows.{StandsRow, later}
+use Rattle.xml_tokenizer.specs.Rows.{StandsRow, later}
 use Rattle.xml_grammar.specs.Nesting.{Nest, Level, mode_of, mode_in, broken}
 use Rattle.xml_grammar.specs.Documents.{width, IsRule, IsPieceFault, IsFault}
 use Rattle.xml_grammar.proofs.OneMeaning.{kind_none, told_rule, broken_rule}
-use Rattle.xml_grammar.proofs.Rows.{width-append, placed_run, behind_run}
+use Rattle.xml_grammar.proofs.Rows.{width-append}
+use Rattle.xml_tokenizer.proofs.RunPieces.{placed_run, after_run}
 use Rattle.xml_grammar.proofs.Splits.{Stops}
 use Rattle.xml_grammar.proofs.Stopping.{fault_made}
 use Rattle.xmp_xml.specs.declared.builder.Frame.{Frame}
@@ -131,9 +132,9 @@ outside_rule s mode d ds cs left none dark (front, back, stands, more, is) = bro
     breaks [] e = rw dark refl
     breaks (l ∷ ls) e = absurd cc
 
-behind_levels : (s : Nest) (cs : List ℕ) → (behind_run s cs).levels ≡ s.levels
-behind_levels s [] = refl
-behind_levels s (c ∷ cs) = refl
+after_levels : (s : Nest) (cs : List ℕ) → (after_run s cs).levels ≡ s.levels
+after_levels s [] = refl
+after_levels s (c ∷ cs) = refl
 
 -- where nothing is after the white space it is all
 all_there : (run : List ℕ) (b : Blanks run) → b.back ≡ [] → prefix_len is_blank (encode_utf8_all run) ≡ length (encode_utf8_all run)
@@ -155,8 +156,8 @@ run_halts text cs left run s place u k row none dark at = by_back b.back refl
         let wide = c.wide in
         let ends = place_ends text cs k.pieces u k.read in
         let outside : levels_of s.top s.outer s.scope ≡ [] = ap (λ (z : List Frame). levels_of s.top z s.scope) none in
-        let rule : IsRule (behind_run (nest_of s) b.front) c.middle OutsideRoot =
-        outside_rule (behind_run (nest_of s) b.front) c.next d ds c.middle left (behind_levels (nest_of s) b.front ∙ outside) (subst (Stops is_blank) is b.stops) c.back in
+        let rule : IsRule (after_run (nest_of s) b.front) c.middle OutsideRoot =
+        outside_rule (after_run (nest_of s) b.front) c.next d ds c.middle left (after_levels (nest_of s) b.front ∙ outside) (subst (Stops is_blank) is b.stops) c.back in
         fault_made text OutsideRoot place (k.pieces ++ placed_run (length text - width cs) b.front) c.middle u
         (run_begins text cs c.middle b.front s u k c.front (inr b.blank))
         (omega arith)

@@ -1,5 +1,5 @@
--- The first hint of each namespace, one by one.
-use Rattle.std.proofs.Common.{◌≡◌, ℕ, Bool, true, false, not, ◌||◌, List, [], ◌∷◌, ◌++◌, refl, sym, ap, ◌∙◌}
+-- The first hint of each namespace, one by one, and the hints with a mark.
+use Rattle.std.proofs.Common.{◌≡◌, ℕ, length, Bool, true, false, not, ◌||◌, List, [], ◌∷◌, ◌++◌, refl, sym, ap, ◌∙◌, append_assoc, arith}
 use Rattle.std.proofs.Math.Bool.{not-not}
 use Rattle.std.specs.Prelude.{if◌then◌else◌}
 use Rattle.std.specs.List.{list_any}
@@ -10,6 +10,7 @@ use Rattle.xmp_values.specs.Texts.{with_text}
 use Rattle.xmp_values.proofs.TextPlaces.{bytes_eq-sym, list_any-with_text}
 use Rattle.xml_grammar.specs.Trees.{first_hints}
 use Rattle.xml_grammar.proofs.Scoping.{knows, knows-first, first_hints-push}
+use Rattle.xmp_xml.specs.Marks.{first_mark, later_marks, marked}
 
 -- the set holds the namespaces of these hints
 abbrev pub Sees : List (List ℕ) → List Hint → Type 0
@@ -40,3 +41,30 @@ first_more seen hs firsts h text is_new is has firsts_are new = by is_new new
     by false e =
         let there : knows h.space (first_hints hs) ≡ true = known ∙ sym (ap not e ∙ not-not (list_any (bytes_eq text) seen)) in
         firsts_are ∙ sym (first_hints-push hs h ∙ rw there refl)
+
+-- ---- marks
+
+-- one hint more, with its mark
+pub marked-push : (ms : List Bool) (hs : List Hint) (b : Bool) (h : Hint) → length ms ≡ length hs
+    → marked (ms ++ b ∷ []) (hs ++ h ∷ []) ≡ (if b then marked ms hs ++ h ∷ [] else marked ms hs)
+marked-push [] [] b h e = refl
+marked-push [] (x ∷ hs) b h e = absurd (omega arith)
+marked-push (m ∷ ms) [] b h e = absurd (omega arith)
+marked-push (m ∷ ms) (x ∷ hs) b h e = by m b (marked-push ms hs b h (omega arith))
+  where
+    by : (m b : Bool) → marked (ms ++ b ∷ []) (hs ++ h ∷ []) ≡ (if b then marked ms hs ++ h ∷ [] else marked ms hs)
+        → (if m then x ∷ marked (ms ++ b ∷ []) (hs ++ h ∷ []) else marked (ms ++ b ∷ []) (hs ++ h ∷ []))
+        ≡ (if b then (if m then x ∷ marked ms hs else marked ms hs) ++ h ∷ [] else (if m then x ∷ marked ms hs else marked ms hs))
+    by true true e = ap (λ (gs : List Hint). x ∷ gs) e
+    by true false e = ap (λ (gs : List Hint). x ∷ gs) e
+    by false true e = e
+    by false false e = e
+
+-- the next hint of a list, taken or left by the next mark
+pub marked_next : (firsts : List Hint) (marks : List Bool) (h : Hint) (more : List Hint)
+    → firsts ++ marked marks (h ∷ more) ≡ (if first_mark marks then firsts ++ h ∷ [] else firsts) ++ marked (later_marks marks) more
+marked_next firsts marks h more = by (first_mark marks)
+  where
+    by : (b : Bool) → firsts ++ (if b then h ∷ marked (later_marks marks) more else marked (later_marks marks) more) ≡ (if b then firsts ++ h ∷ [] else firsts) ++ marked (later_marks marks) more
+    by true = sym (append_assoc firsts (h ∷ []) (marked (later_marks marks) more))
+    by false = refl

@@ -12,11 +12,13 @@ use Rattle.std.proofs.lemmas.Bool.{leb-true, le-leb}
 use Rattle.xmp_values.specs.declared.text.Name.{Name}
 use Rattle.xmp_values.specs.Names.{named}
 use Rattle.xml_grammar.specs.declared.tags.RawAttribute.{RawAttribute}
-use Rattle.xml_grammar.specs.Scopes.{Binding, same_prefix, same_name, bound_to, or_nothing, attribute_space, expanded}
+use Rattle.xmp_values.specs.Names.{same_name}
+use Rattle.xml_grammar.specs.Scopes.{Binding, same_prefix, bound_to, or_nothing, attribute_space, expanded}
 use Rattle.xml_grammar.specs.Nesting.{has_twice}
 use Rattle.xml_grammar.proofs.Parts.{apart}
 use Rattle.xml_grammar.proofs.Splits.{not_both}
-use Rattle.xml_grammar.proofs.Repeats.{same_prefix_is, same_name_is, fails_differ, apart_from_test, test_from_apart}
+use Rattle.xmp_values.proofs.SameNames.{same_name_is}
+use Rattle.xml_grammar.proofs.Repeats.{same_prefix_is, fails_differ, apart_from_test, test_from_apart}
 use Rattle.xmp_xml.specs.declared.places.Places.{Places}
 use Rattle.xmp_xml.specs.declared.scopes.Scoped.{Scoped}
 use Rattle.xmp_xml.specs.Places.{place_at}

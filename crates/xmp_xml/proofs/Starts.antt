@@ -9,7 +9,7 @@ use lib.Utf8.{encode, next}
 use Rattle.xmp_values.specs.Characters.{is_blank}
 use Rattle.xml_grammar.specs.Nesting.{Nest, enter}
 use Rattle.xml_grammar.specs.Trees.{Placed}
-use Rattle.xml_grammar.specs.Documents.{width, mark_width, behind_mark, Reads, Begins}
+use Rattle.xml_grammar.specs.Documents.{width, mark_width, after_mark, Reads, Begins}
 use Rattle.xml_grammar.proofs.Splits.{Stops, all_cons}
 use Rattle.xml_grammar.proofs.Parts.{blank_is, apart}
 use Rattle.xml_grammar.proofs.Rows.{width-append}
@@ -17,12 +17,12 @@ use Rattle.xmp_xml.specs.Building.{start}
 use Rattle.xmp_xml.proofs.Reached.{Reached}
 
 -- nothing is read
-pub reached_start : (text : List ℕ) → Reached text start (behind_mark (chars text))
+pub reached_start : (text : List ℕ) → Reached text start (after_mark (chars text))
 reached_start text = record { pieces = []; read = refl; nest = refl; hinted = refl; quiet = refl; shows = λ more. refl }
 
 -- ---- places
 
-marked : (cs : List ℕ) → mark_width cs + width (behind_mark cs) ≡ width cs
+marked : (cs : List ℕ) → mark_width cs + width (after_mark cs) ≡ width cs
 unfolding encode
 marked [] = refl
 marked (c ∷ cs) = by_mark (eqb c 0xFEFF) refl
@@ -37,7 +37,7 @@ marked (c ∷ cs) = by_mark (eqb c 0xFEFF) refl
         omega arith
     by_mark false e = omega arith
 
-whole : (text : List ℕ) → IsUtf8 text → mark_width (chars text) + width (behind_mark (chars text)) ≡ length text
+whole : (text : List ℕ) → IsUtf8 text → mark_width (chars text) + width (after_mark (chars text)) ≡ length text
 whole text u = marked (chars text) ∙ ap length (encodes-chars text u)
 
 narrows : (s : Nest) (at : ℕ) (ps : List Placed) (text left : List ℕ) → Reads s at ps text left → width left ≤ width text
@@ -51,11 +51,11 @@ narrows s at (p ∷ ps) text left (place, front, back, stands, good, more, is) =
 pub place_ends : (text cs : List ℕ) (ps : List Placed) → IsUtf8 text → Begins text ps cs → length text - width cs + width cs ≡ length text
 place_ends text cs ps u read =
     let total = whole text u in
-    let less = narrows _ _ ps (behind_mark (chars text)) cs read in
+    let less = narrows _ _ ps (after_mark (chars text)) cs read in
     omega arith
 
 -- the place is as far from the start as what is left from the whole
-pub place_from : (text cs : List ℕ) (ps : List Placed) → IsUtf8 text → Begins text ps cs → length text - width cs + width cs ≡ mark_width (chars text) + width (behind_mark (chars text))
+pub place_from : (text cs : List ℕ) (ps : List Placed) → IsUtf8 text → Begins text ps cs → length text - width cs + width cs ≡ mark_width (chars text) + width (after_mark (chars text))
 place_from text cs ps u read = place_ends text cs ps u read ∙ sym (whole text u)
 
 -- ---- white space
@@ -122,8 +122,8 @@ blanks (c ∷ cs) = by_blank (is_blank c) refl (blanks cs)
     by_blank false e k = record { front = []; back = c ∷ cs; parts = refl; blank = refl; stops = e; long = dark_byte c (encode_utf8_all cs) e }
 
 -- where all bytes are white space nothing is after it
-pub none_behind : (cs : List ℕ) (k : Blanks cs) → prefix_len is_blank (encode_utf8_all cs) ≡ length (encode_utf8_all cs) → k.back ≡ []
-none_behind cs k e = by_back k.back refl
+pub none_after : (cs : List ℕ) (k : Blanks cs) → prefix_len is_blank (encode_utf8_all cs) ≡ length (encode_utf8_all cs) → k.back ≡ []
+none_after cs k e = by_back k.back refl
   where
     by_back : (back : List ℕ) → k.back ≡ back → back ≡ []
     by_back [] is = refl
@@ -137,5 +137,5 @@ none_behind cs k e = by_back k.back refl
 pub all_blank : (cs : List ℕ) → prefix_len is_blank (encode_utf8_all cs) ≡ length (encode_utf8_all cs) → IsTrue (list_all is_blank cs)
 all_blank cs e =
     let k : Blanks cs = blanks cs in
-    let same : cs ≡ k.front = k.parts ∙ ap (λ (z : List ℕ). k.front ++ z) (none_behind cs k e) ∙ append-nil k.front in
+    let same : cs ≡ k.front = k.parts ∙ ap (λ (z : List ℕ). k.front ++ z) (none_after cs k e) ∙ append-nil k.front in
     subst (λ (z : List ℕ). IsTrue (list_all is_blank z)) (sym same) k.blank

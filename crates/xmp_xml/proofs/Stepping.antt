@@ -18,7 +18,8 @@ use Rattle.xml_grammar.specs.Nesting.{Level, is_foreign, has_unbound, has_twice,
 use Rattle.xml_grammar.proofs.Splits.{not_both}
 use Rattle.xml_grammar.proofs.Parts.{apart}
 use Rattle.xml_grammar.proofs.SoundPieces.{neither, same_bytes}
-use Rattle.xml_grammar.proofs.Repeats.{same_qname_is, same_prefix_is, same_name_is}
+use Rattle.xmp_values.proofs.SameNames.{same_name_is}
+use Rattle.xml_grammar.proofs.Repeats.{same_qname_is, same_prefix_is}
 use Rattle.xmp_xml.specs.declared.builder.Frame.{Frame}
 use Rattle.xmp_xml.specs.declared.builder.Builder.{Builder}
 use Rattle.xmp_xml.specs.Building.{is_nil, levels_of, is_rooted, nest_of, passed, with_text, after, within}

@@ -11,14 +11,15 @@ use Rattle.xml_grammar.specs.declared.elements.Element.{Element}
 use Rattle.xml_grammar.specs.declared.tags.QName.{QName}
 use Rattle.xml_grammar.specs.declared.tags.Tag.{Tag}
 use Rattle.xml_grammar.specs.Pieces.{Piece, Declaration, Instruction, Comment, Cdata, Start, End, Reference, LineEnd, Character, Stands}
-use Rattle.xml_grammar.specs.Rows.{StandsRow}
+use Rattle.xml_tokenizer.specs.Rows.{StandsRow}
 use Rattle.xml_grammar.specs.Scopes.{Binding, bindings_of, element_name, expanded_attributes}
 use Rattle.xml_grammar.specs.Nesting as nesting
 use Rattle.xml_grammar.specs.Nesting.{Level, Nest, bound_in, bound_at, enter, is_outside, is_allowed_outside, broken, mode_of}
 use Rattle.xml_grammar.specs.Trees.{Event, Opens, Words, Closes, joined, events, put, put_inside, closing, piece_events, hint_of, piece_hints, Placed, events_of, all_hints}
-use Rattle.xml_grammar.specs.Documents.{width, mark_width, behind_mark, Reads, Begins, nest_after}
+use Rattle.xml_grammar.specs.Documents.{width, mark_width, after_mark, Reads, Begins, nest_after}
 use Rattle.xml_grammar.proofs.TreeEvents.{element_is, text_is}
-use Rattle.xml_grammar.proofs.Rows.{put_inside-append, reads_append, reads_one, nest-append, placed_run, behind_run, run_nest, IsRunFree, run_reads, run_events}
+use Rattle.xml_grammar.proofs.Rows.{put_inside-append, reads_append, reads_one, nest-append}
+use Rattle.xml_tokenizer.proofs.RunPieces.{placed_run, after_run, run_nest, IsRunFree, run_reads, run_events}
 use Rattle.xml_grammar.proofs.Scoping.{all_hints-append}
 use Rattle.xml_grammar.proofs.Unbroken.{unbroken}
 use Rattle.xmp_xml.specs.declared.builder.Frame.{Frame}
@@ -283,8 +284,8 @@ piece_reached text cs front back s p u r is stands good =
     let one : List Placed = (at, p) ∷ [] in
     record {
       pieces = r.pieces ++ one;
-      read = reads_one nesting.start (mark_width (chars text)) at r.pieces p (behind_mark (chars text)) front back
-          (subst (λ (z : List ℕ). Reads nesting.start (mark_width (chars text)) r.pieces (behind_mark (chars text)) z) is r.read)
+      read = reads_one nesting.start (mark_width (chars text)) at r.pieces p (after_mark (chars text)) front back
+          (subst (λ (z : List ℕ). Reads nesting.start (mark_width (chars text)) r.pieces (after_mark (chars text)) z) is r.read)
           (subst (λ (z : Nest). Stands (mode_of z) p front back) r.nest stands)
           (subst (λ (z : Nest). broken z p ≡ None) r.nest good)
           (ap (λ (z : List ℕ). at + width z) (sym is) ∙ place_from text cs r.pieces u r.read);
@@ -309,14 +310,14 @@ pub run_begins : (text cs left run : List ℕ) (s : Builder) → IsUtf8 text →
     → Begins text (r.pieces ++ placed_run (length text - width cs) run) left
 run_begins text cs left run s u r row free =
     let at : ℕ = length text - width cs in
-    reads_append nesting.start (mark_width (chars text)) at r.pieces (placed_run at run) (behind_mark (chars text)) cs left r.read
+    reads_append nesting.start (mark_width (chars text)) at r.pieces (placed_run at run) (after_mark (chars text)) cs left r.read
     (run_reads (nest_after nesting.start r.pieces) at run cs left (subst (λ (z : Nest). StandsRow (mode_of z) (map Character run) cs left) r.nest row) (subst (λ (z : Nest). IsRunFree z run) r.nest free))
     (place_from text cs r.pieces u r.read)
 
 -- the nest after it
-pub run_nested : (text cs run : List ℕ) (s : Builder) (r : Reached text s cs) (at : ℕ) → behind_run (nest_of s) run ≡ nest_after nesting.start (r.pieces ++ placed_run at run)
+pub run_nested : (text cs run : List ℕ) (s : Builder) (r : Reached text s cs) (at : ℕ) → after_run (nest_of s) run ≡ nest_after nesting.start (r.pieces ++ placed_run at run)
 run_nested text cs run s r at =
-    ap (λ (z : Nest). behind_run z run) r.nest ∙ sym (run_nest (nest_after nesting.start r.pieces) at run) ∙ sym (nest-append nesting.start r.pieces (placed_run at run))
+    ap (λ (z : Nest). after_run z run) r.nest ∙ sym (run_nest (nest_after nesting.start r.pieces) at run) ∙ sym (nest-append nesting.start r.pieces (placed_run at run))
 
 pub run_reached : (text cs left : List ℕ) (s : Builder) (c : ℕ) (run : List ℕ) → IsUtf8 text → Reached text s cs → StandsRow (mode_of (nest_of s)) (map Character (c ∷ run)) cs left → IsRunFree (nest_of s) (c ∷ run)
     → Reached text (with_text s (encode_utf8_all (c ∷ run))) left
@@ -334,6 +335,6 @@ run_reached text cs left s c run u r row free =
           ap (events_of nesting.start) (append_assoc r.pieces placed more)
           ∙ r.shows (placed ++ more)
           ∙ ap (shown s) (run_events (nest_of s) at (c ∷ run) more)
-          ∙ text_shown s t (events_of (behind_run (nest_of s) (c ∷ run)) more)
+          ∙ text_shown s t (events_of (after_run (nest_of s) (c ∷ run)) more)
           ∙ ap (λ (z : Nest). shown (with_text s t) (events_of z more)) (sym (text_nest s t));
     }

@@ -11,7 +11,7 @@ use Rattle.xml_grammar.specs.declared.tokens.Mode.TheVariants as modes
 use Rattle.xml_grammar.specs.declared.tokens.Token.{Token}
 use Rattle.xml_grammar.specs.declared.tokens.Token.TheVariants as tokens
 use Rattle.xml_grammar.specs.Pieces.{Piece, Declaration, Instruction, Comment, Cdata, Start, End, Reference, LineEnd, HasPiece}
-use Rattle.xml_grammar.specs.Rows.{StandsRow, pieces_of, IsSpelled}
+use Rattle.xml_tokenizer.specs.Rows.{StandsRow, pieces_of, IsSpelled}
 use Rattle.xml_grammar.specs.Nesting.{mode_of, broken}
 use Rattle.xml_grammar.specs.Trees.{first_hints}
 use Rattle.xml_grammar.specs.Documents.{IsRule}

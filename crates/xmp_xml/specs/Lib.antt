@@ -5,6 +5,7 @@ pub mod Places
 pub mod Numbers
 pub mod Scopes
 pub mod Kept
+pub mod Marks
 pub mod Building
 pub mod Document
 pub mod Tagging

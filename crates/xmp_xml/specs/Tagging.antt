@@ -6,7 +6,8 @@ use Rattle.xml_grammar.specs.declared.elements.Attribute.{Attribute}
 use Rattle.xml_grammar.specs.declared.tags.QName.{QName}
 use Rattle.xml_grammar.specs.declared.tags.RawAttribute.{RawAttribute}
 use Rattle.xml_grammar.specs.declared.tags.Tag.{Tag}
-use Rattle.xml_grammar.specs.Scopes.{Binding, binding_of, bindings_of, plain_attributes, same_prefix, same_name, element_name, expanded, is_unbound, is_misbound, expanded_attributes}
+use Rattle.xmp_values.specs.Names.{same_name}
+use Rattle.xml_grammar.specs.Scopes.{Binding, binding_of, bindings_of, plain_attributes, same_prefix, element_name, expanded, is_unbound, is_misbound, expanded_attributes}
 use Rattle.xml_grammar.specs.Nesting.{has_unbound, has_twice}
 use Rattle.xml_grammar.specs.Trees.{hint_of}
 use Rattle.xmp_xml.specs.declared.builder.Frame.{Frame}

@@ -74,12 +74,13 @@ pub fn new_builder<'p>(alloc: Global) -> Builder<'p>
 }
 
 /// The text that is read becomes a child.
-fn flush(builder: &mut Builder<'_>) -> Result<(), Memory>
+fn flush(alloc: Global, builder: &mut Builder<'_>) -> Result<(), Memory>
     ensures { OnOk result (builder.new ≡ flushed builder.old) }
 {
     let text = replace(&mut builder.text, Pending::new());
     if !text.is_empty() {
-        builder.top.children.push(Child::Text(text.into_text()))?;
+        let text = text.into_text(alloc)?;
+        builder.top.children.push(Child::Text(text))?;
     }
     Ok(())
 }
@@ -117,13 +118,14 @@ pub fn scope_tag(alloc: Global, builder: &mut Builder<'_>) -> Result<(), Memory>
 
 /// An element begins, inside which the builder's declarations are in force.
 pub fn begin<'p>(
+    alloc: Global,
     builder: &mut Builder<'p>,
     frame: Frame<'p>,
     declared: Sequence<Hint>,
 ) -> Result<(), Memory>
     ensures { OnOk result (builder.new ≡ with_frame builder.old frame.entry declared) }
 {
-    flush(builder)?;
+    flush(alloc, builder)?;
     let around = replace(&mut builder.top, frame);
     builder.outer.push(around)?;
     builder.hints.append(declared)?;
@@ -175,7 +177,7 @@ fn end_child<'p>(alloc: Global, builder: &mut Builder<'p>, parent: Frame<'p>) ->
 pub fn end(alloc: Global, builder: &mut Builder<'_>) -> Result<(), Memory>
     ensures { OnOk result (builder.new ≡ closed builder.old) }
 {
-    flush(builder)?;
+    flush(alloc, builder)?;
     builder.first = false;
     match builder.outer.pop() {
         None => Ok(()),

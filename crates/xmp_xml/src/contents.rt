@@ -44,4 +44,12 @@ impl<'p> Doc<'p> {
     {
         &self.declared
     }
+
+    /// The same hints, moved.
+    pub fn into_declared(self) -> Hints
+        ensures { result ≡ self.entry.declared }
+    {
+        let Doc { root: _, declared } = self;
+        declared
+    }
 }

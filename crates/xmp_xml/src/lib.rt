@@ -27,6 +27,3 @@ pub use reading::read;
 pub use xml_grammar::{Attribute, Attributes, Child, Children, Element};
 /// The rule that a text breaks first and the place, in bytes, or out of memory.
 pub use xmp_values::PlaceStop as XmlStop;
-
-#[cfg(test)]
-mod tests;

@@ -54,13 +54,13 @@ impl<'p> Pending<'p> {
         self.bytes().len() == 0
     }
 
-    pub fn into_text(self) -> Text<'p>
-        ensures { result ≡ self.entry }
+    pub fn into_text(self, alloc: Global) -> Result<Text<'p>, Memory>
+        ensures { IfOk result (λ t. t ≡ self.entry) }
     {
         let Pending { kept } = self;
         match kept {
-            Kept::One(text) => text,
-            Kept::Many(bytes) => Text::own(bytes),
+            Kept::One(text) => Ok(text),
+            Kept::Many(bytes) => Text::own(alloc, bytes),
         }
     }
 
@@ -106,5 +106,5 @@ pub fn char_text<'p>(alloc: Global, c: char) -> Result<Text<'p>, Memory>
 {
     let mut text = String::new(alloc);
     text.push(c)?;
-    Ok(Text::own(Bytes::from_vec(text.into_bytes())))
+    Text::own(alloc, Bytes::from_vec(text.into_bytes()))
 }

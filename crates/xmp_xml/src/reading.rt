@@ -17,7 +17,7 @@ use crate::hints::first_hints;
 use crate::steps::token_step;
 use std::alloc::Global;
 use xml_grammar::{Element, Mode};
-use xml_tokenizer::{behind_mark, text_of, token_of};
+use xml_tokenizer::{after_mark, text_of, token_of};
 use xmp_values::{Hint, Hints, PlaceStop, Rule, Sequence};
 
 /// Where the next piece stands.
@@ -43,16 +43,16 @@ fn advance<'p>(
 ) -> Result<&'p str, PlaceStop>
     requires fits { at + length rest.now < 2 ^ 64 }
     requires some { rest.now ≢ [] }
-    ensures further { IfOk result (λ behind. Advances builder.old at (chars rest.now) builder.new (chars behind.now)) }
-    ensures shorter { IfOk result (λ behind. length behind.now < length rest.now) }
-    ensures utf8 { IfOk result (λ behind. IsUtf8 behind.now) }
+    ensures further { IfOk result (λ after. Advances builder.old at (chars rest.now) builder.new (chars after.now)) }
+    ensures shorter { IfOk result (λ after. length after.now < length rest.now) }
+    ensures utf8 { IfOk result (λ after. IsUtf8 after.now) }
     ensures stops { IfErr result (λ e. Stops place_of e (λ f. Halts builder.old at (chars rest.now) f.0 f.1)) }
 {
     let mode = mode_of(builder);
     match token_of(alloc, mode, rest) {
-        Ok((token, behind)) => {
+        Ok((token, after)) => {
             token_step(alloc, builder, at, token)?;
-            Ok(behind)
+            Ok(after)
         }
         Err(stop) => Err(stop.at(at)),
     }
@@ -81,7 +81,7 @@ fn finish<'p>(
     match root {
         None => Err(PlaceStop::Fault(Rule::Unfinished, at)),
         Some(root) => {
-            let declared = first_hints(alloc, hints.as_slice())?;
+            let declared = first_hints(alloc, hints)?;
             Ok((root, declared))
         }
     }
@@ -93,7 +93,7 @@ fn read_text<'p>(alloc: Global, text: &'p str) -> Result<(Element<'p>, Sequence<
     ensures stop { IfErr result (λ e. Stops place_of e (λ f. IsFault text.now f.0 f.1)) }
 {
     let mut builder = new_builder(alloc);
-    let mut rest = behind_mark(text);
+    let mut rest = after_mark(text);
     for _ in 0..text.len() {
         if rest.is_empty() {
             return finish(alloc, builder, text.len() as u64);

@@ -94,8 +94,6 @@ impl<'p> Scope<'p> {
         let outer = places.get(&prefix);
         let places = places.with(alloc, &prefix, Some(stack.len()))?;
         let (numbers, mark) = numbers.with(alloc, space.bytes())?;
-        // Each name that is in it gets it again.
-        let space = space.shared(alloc)?;
         stack.push(Scoped {
             prefix,
             space,

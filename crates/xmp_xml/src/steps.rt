@@ -134,7 +134,7 @@ fn begun<'p>(alloc: Global, builder: &mut Builder<'p>, tagged: Tagged<'p>) -> Re
         twice: _,
         empty,
     } = tagged;
-    begin(builder, frame, hints)?;
+    begin(alloc, builder, frame, hints)?;
     end_if(alloc, empty, builder)
 }
 

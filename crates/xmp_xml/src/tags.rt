@@ -98,42 +98,30 @@ fn lacks(scope: &Scope<'_>, prefix: &Option<Text<'_>>) -> bool
 }
 
 /// The namespace of a prefix.
-fn space_of<'p>(
-    alloc: Global,
-    scope: &Scope<'p>,
-    prefix: &Option<Text<'_>>,
-) -> Result<Text<'p>, Memory>
+fn space_of<'p>(scope: &Scope<'p>, prefix: &Option<Text<'_>>) -> Result<Text<'p>, Memory>
     ensures { IfOk result (λ t. t ≡ or_nothing (bound_to scope.now prefix.now)) }
 {
     let Some(space) = scope.bound_to(prefix) else {
         return Ok(Text::raw(b"".as_slice()));
     };
-    space.try_clone(alloc)
+    space.try_clone()
 }
 
-fn attribute_space<'p>(
-    alloc: Global,
-    scope: &Scope<'p>,
-    prefix: &Option<Text<'_>>,
-) -> Result<Text<'p>, Memory>
+fn attribute_space<'p>(scope: &Scope<'p>, prefix: &Option<Text<'_>>) -> Result<Text<'p>, Memory>
     ensures { IfOk result (λ t. t ≡ attribute_space scope.now prefix.now) }
 {
     match prefix {
         None => Ok(Text::raw(b"".as_slice())),
-        Some(_) => space_of(alloc, scope, prefix),
+        Some(_) => space_of(scope, prefix),
     }
 }
 
-fn expanded_one<'p>(
-    alloc: Global,
-    scope: &Scope<'p>,
-    attribute: RawAttribute<'p>,
-) -> Result<Attribute<'p>, Memory>
+fn expanded_one<'p>(scope: &Scope<'p>, attribute: RawAttribute<'p>) -> Result<Attribute<'p>, Memory>
     ensures { IfOk result (λ a. a ≡ expanded scope.now attribute.entry) }
 {
     let RawAttribute { name, value } = attribute;
     let QName { prefix, local } = name;
-    let space = attribute_space(alloc, scope, &prefix)?;
+    let space = attribute_space(scope, &prefix)?;
     Ok(Attribute {
         name: Name { space, local },
         value,
@@ -150,7 +138,7 @@ fn expanded_all<'p>(
 {
     let mut attributes = Attributes::new(alloc);
     for attribute in plain.into_vec() {
-        attributes.push(expanded_one(alloc, scope, attribute)?)?;
+        attributes.push(expanded_one(scope, attribute)?)?;
     }
     Ok(attributes)
 }
@@ -203,8 +191,8 @@ fn frame_in<'p>(
     Ok(Frame {
         at,
         name: Name {
-            space: space_of(alloc, scope, &name.prefix)?,
-            local: name.local.try_clone(alloc)?,
+            space: space_of(scope, &name.prefix)?,
+            local: name.local.try_clone()?,
         },
         spelled: name,
         attributes: expanded_all(alloc, scope, plain)?,

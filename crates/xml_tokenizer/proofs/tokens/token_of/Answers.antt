@@ -5,7 +5,7 @@ use Rattle.xml_grammar.specs.Documents.{IsRule}
 use Rattle.xml_tokenizer.specs.Faults.{rule_at}
 use Rattle.xml_tokenizer.specs.Tokens.{token_at}
 use Rattle.xml_tokenizer.proofs.FaultLaws.{fails_by}
-use Rattle.xml_tokenizer.proofs.TokenLaws.{token_takes, token_spelled, token_none, behind_row}
+use Rattle.xml_tokenizer.proofs.TokenLaws.{token_takes, token_spelled, token_none, after_row}
 use Rattle.xml_tokenizer.proofs.tokens.token_of.Goals as goal
 
 pub returns-in-Ok-clause-stands : goal.returns-in-Ok-clause-stands
@@ -15,7 +15,7 @@ pub returns-in-Ok-clause-some : goal.returns-in-Ok-clause-some
 returns-in-Ok-clause-some c =
     let t = token_takes c.args.mode (chars c.args.text.now) _ c.in-Ok.ensures in
     let u : IsUtf8 c.in-Ok.rest.now = search rules in
-    (t.1, behind_row c.args.mode _ c.args.text.now c.in-Ok.rest.now c.utf8.text u t)
+    (t.1, after_row c.args.mode _ c.args.text.now c.in-Ok.rest.now c.utf8.text u t)
 
 pub returns-in-Ok-clause-spelled : goal.returns-in-Ok-clause-spelled
 returns-in-Ok-clause-spelled c = token_spelled c.args.mode (chars c.args.text.now) _ c.in-Ok.ensures

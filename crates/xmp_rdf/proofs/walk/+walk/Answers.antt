@@ -63,7 +63,7 @@ resource_value-returns t c =
     c.in_ok-by_members.ensures ∙ (λ i. by_members (c.in_ok-lang.ensures i) (c.new.ensures i) members) in
     form-members levels depth e ∙ and_then-ok _ members (λ ms. Ok (by_members (lang_of e) [] ms)) (sym step ∙ c.in_ok-add_members.ensures) ∙ ap Ok (sym made)
 
--- ---- members one behind another
+-- ---- members one after another
 
 pub add_members-loop-child-init : goal.add_members-loop-child-init
 add_members-loop-child-init t c = all-none (visits_in c.args.levels c.args.holder c.args.depth) (element_member (value_within c.args.levels)) c.args.members.now
@@ -107,7 +107,7 @@ add_member-returns t c =
     ∙ and_then-ok _ c.in_ok-value.value (λ v. Ok (before ++ member (name_of e) v ∷ [])) (ap (λ d. read_within c.args.levels role d e) (sym c.member_depth.ensures.depth) ∙ c.in_ok-value.ensures)
     ∙ ap Ok (ap (λ n. before ++ member n c.in_ok-value.value ∷ []) (sym c.in_ok-name.ensures) ∙ sym pushed)
 
--- ---- items one behind another
+-- ---- items one after another
 
 pub add_items-loop-child-init : goal.add_items-loop-child-init
 add_items-loop-child-init t c = all-none (visits_at c.args.levels c.args.depth) (value_within c.args.levels) c.args.items.now

@@ -10,8 +10,8 @@ pub returns-then-is_name_start : goal.returns-then-is_name_start
 returns-then-is_name_start c =
     let text = c.args.text.now in
     let first = c.in-Some.first in
-    let behind = c.as_str.result.now in
-    let cut : text ≡ encode_utf8 first ++ behind = cc (c.in-Some.ensures.steps.0, c.chars-characters.ensures.rest, c.as_str.ensures) in
-    let split = ap is_name_of (chars_past_char text behind first c.utf8.text cut) in
+    let after = c.as_str.result.now in
+    let cut : text ≡ encode_utf8 first ++ after = cc (c.in-Some.ensures.steps.0, c.chars-characters.ensures.rest, c.as_str.ensures) in
+    let split = ap is_name_of (chars_past_char text after first c.utf8.text cut) in
     let starts : is_name_start first ≡ true = cc (c.is_name_start.ensures, c.if-is_name_start.true) in
-    c.has_name_chars_alone.ensures ∙ sym (split ∙ ap (λ s. s && list_all is_name_char (chars behind)) starts)
+    c.has_name_chars_alone.ensures ∙ sym (split ∙ ap (λ s. s && list_all is_name_char (chars after)) starts)

@@ -8,16 +8,16 @@ use Rattle.xmp_xml.proofs.Advancing.{run_fits, advanced, halted, no_token, some_
 use Rattle.xmp_xml.proofs.reading.advance.Goals as goal
 
 pub token_step-requires : goal.token_step-requires
-token_step-requires c = run_fits c.mode_of-mode.result c.in-Ok.token c.args.rest.now c.in-Ok.behind.now c.args.at c.utf8.rest c.in-Ok.ensures.stands c.in-Ok.ensures.spelled c.requires.fits
+token_step-requires c = run_fits c.mode_of-mode.result c.in-Ok.token c.args.rest.now c.in-Ok.after.now c.args.at c.utf8.rest c.in-Ok.ensures.stands c.in-Ok.ensures.spelled c.requires.fits
 
 pub returns-in_ok-token_step-in-Ok-clause-further : goal.returns-in_ok-token_step-in-Ok-clause-further
 returns-in_ok-token_step-in-Ok-clause-further c =
-    advanced c.args.builder.now c.args.at c.mode_of-mode.result c.in-Ok.token c.args.rest.now c.in-Ok.behind.now c.mode_of-mode.ensures c.in-Ok.ensures.stands c.in-Ok.ensures.some.0 c.in-Ok.ensures.spelled c.token_step.new.builder c.in_ok-token_step-in-Ok.ensures
+    advanced c.args.builder.now c.args.at c.mode_of-mode.result c.in-Ok.token c.args.rest.now c.in-Ok.after.now c.mode_of-mode.ensures c.in-Ok.ensures.stands c.in-Ok.ensures.some.0 c.in-Ok.ensures.spelled c.token_step.new.builder c.in_ok-token_step-in-Ok.ensures
 
 pub returns-in_err-token_step-in-Ok-clause-stops : goal.returns-in_err-token_step-in-Ok-clause-stops
 returns-in_err-token_step-in-Ok-clause-stops c =
     let p = err_from_is_err_and c.from_residual.result c.from_residual.ensures.1 in
-    rw (p.1, p.2) (halted c.args.builder.now c.args.at c.mode_of-mode.result c.in-Ok.token c.args.rest.now c.in-Ok.behind.now c.mode_of-mode.ensures c.in-Ok.ensures.stands c.in-Ok.ensures.some.0 c.in-Ok.ensures.spelled c.in_err-token_step-in-Ok.field-0.0 c.in_err-token_step-in-Ok.ensures)
+    rw (p.1, p.2) (halted c.args.builder.now c.args.at c.mode_of-mode.result c.in-Ok.token c.args.rest.now c.in-Ok.after.now c.mode_of-mode.ensures c.in-Ok.ensures.stands c.in-Ok.ensures.some.0 c.in-Ok.ensures.spelled c.in_err-token_step-in-Ok.field-0.0 c.in_err-token_step-in-Ok.ensures)
 
 pub returns-in-Err-clause-stops : goal.returns-in-Err-clause-stops
 returns-in-Err-clause-stops c =

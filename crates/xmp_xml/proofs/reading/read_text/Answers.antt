@@ -12,10 +12,10 @@ use Rattle.xmp_xml.proofs.reading.read_text.Goals as goal
 
 pub loop-init : goal.loop-init
 loop-init c =
-    let w = mark_within c.args.text.now c.behind_mark-rest.result.now c.utf8.text c.behind_mark-rest.utf8 c.behind_mark-rest.ensures in
+    let w = mark_within c.args.text.now c.after_mark-rest.result.now c.utf8.text c.after_mark-rest.utf8 c.after_mark-rest.ensures in
     record {
-      text = c.behind_mark-rest.utf8;
-      reached = subst (λ (s : Builder). Reached c.args.text.now s (chars c.behind_mark-rest.result.now)) (sym c.new_builder-builder.ensures) (subst (Reached c.args.text.now start) (sym c.behind_mark-rest.ensures) (reached_start c.args.text.now));
+      text = c.after_mark-rest.utf8;
+      reached = subst (λ (s : Builder). Reached c.args.text.now s (chars c.after_mark-rest.result.now)) (sym c.new_builder-builder.ensures) (subst (Reached c.args.text.now start) (sym c.after_mark-rest.ensures) (reached_start c.args.text.now));
       fuel = omega arith;
     }
 

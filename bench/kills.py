@@ -1,0 +1,114 @@
+#!/usr/bin/env python3
+"""Kills `xmp patch` at random moments, and looks at what it leaves of the file.
+
+    bench/kills.py PROGRAM [--runs 1000] [--properties 20000] [--seed 1]
+
+PROGRAM is a built `xmp` (crates/xmp/out/xmp after `rt run`). Each run patches a sidecar with a
+packet that has room for the edit, and is killed after a random part of the time that a whole run
+takes. Of each file that is left there are four kinds: the old bytes, the new ones, a closed packet
+(a space, then the new bytes up to some place and the old ones behind it) which `xmp tree` refuses,
+and anything else, which is an error. Nothing of this is in the gate.
+"""
+
+import argparse
+import collections
+import os
+import random
+import signal
+import subprocess
+import sys
+import tempfile
+import time
+
+HEADER = '<?xpacket begin="\ufeff" id="W5M0MpCehiHzreSzNTczkc9d"?>\n'
+TRAILER = '<?xpacket end="w"?>'
+RDF = "http://www.w3.org/1999/02/22-rdf-syntax-ns#"
+REFUSED = 3
+QUIET = {"stdout": subprocess.DEVNULL, "stderr": subprocess.DEVNULL}
+
+
+def sidecar(properties: int) -> bytes:
+    """A packet of so many properties, with room for a longer value of the first one."""
+    inside = "".join(f"<a:p{n}>value of number {n}</a:p{n}>\n" for n in range(properties))
+    text = (
+        f'<x:xmpmeta xmlns:x="adobe:ns:meta/">\n<rdf:RDF xmlns:rdf="{RDF}">\n'
+        f'<rdf:Description rdf:about="" xmlns:a="urn:a">\n{inside}</rdf:Description>\n</rdf:RDF>\n</x:xmpmeta>\n'
+    )
+    return (HEADER + text + " " * 4096 + TRAILER).encode()
+
+
+def patch(program: str, photo: str, script: str) -> subprocess.Popen:
+    """A run that patches the file."""
+    return subprocess.Popen([program, "patch", photo, script], **QUIET)
+
+
+def write(path: str, data: bytes) -> None:
+    with open(path, "wb") as file:
+        file.write(data)
+
+
+def read(path: str) -> bytes:
+    with open(path, "rb") as file:
+        return file.read()
+
+
+def is_closed(old: bytes, new: bytes, now: bytes) -> bool:
+    """Whether a closed packet holds the new bytes up to some place, and the old ones behind it."""
+    if len(now) != len(old) or now[:1] != b" ":
+        return False
+    place = next((n for n in range(1, len(now)) if now[n] != new[n]), len(now))
+    return now[place:] == old[place:]
+
+
+def kind_of(program: str, photo: str, old: bytes, new: bytes) -> str:
+    """What a run that was killed has left."""
+    now = read(photo)
+    if now == old:
+        return "old"
+    if now == new:
+        return "new"
+    if not is_closed(old, new, now):
+        return "other bytes"
+    status = subprocess.run([program, "tree", photo], check=False, **QUIET).returncode
+    return "refused" if status == REFUSED else "read although closed"
+
+
+def run_killed(program: str, photo: str, script: str, after: float) -> None:
+    """Patches the file, and kills the run after some seconds."""
+    process = patch(program, photo, script)
+    time.sleep(after)
+    process.send_signal(signal.SIGKILL)
+    process.wait()
+
+
+def main() -> int:
+    parser = argparse.ArgumentParser(description=__doc__.splitlines()[0])
+    parser.add_argument("program")
+    parser.add_argument("--runs", type=int, default=1000)
+    parser.add_argument("--properties", type=int, default=20000)
+    parser.add_argument("--seed", type=int, default=1)
+    arguments = parser.parse_args()
+    program = os.path.abspath(arguments.program)
+    moments = random.Random(arguments.seed)
+    old = sidecar(arguments.properties)
+    with tempfile.TemporaryDirectory() as folder:
+        photo, script = os.path.join(folder, "photo.xmp"), os.path.join(folder, "script")
+        write(script, b"set a:p0 another value\n")
+        write(photo, old)
+        began = time.perf_counter()
+        if patch(program, photo, script).wait() != 0:
+            print("the patch without a kill failed", file=sys.stderr)
+            return 1
+        whole = time.perf_counter() - began
+        new = read(photo)
+        counts = collections.Counter()
+        for _ in range(arguments.runs):
+            write(photo, old)
+            run_killed(program, photo, script, moments.random() * whole * 1.2)
+            counts[kind_of(program, photo, old, new)] += 1
+    print(f"{len(old)} bytes, {whole * 1000:.1f} ms a run:", ", ".join(f"{n} {kind}" for kind, n in counts.items()))
+    return 0 if set(counts) <= {"old", "new", "refused"} else 1
+
+
+if __name__ == "__main__":
+    sys.exit(main())

@@ -1,0 +1,64 @@
+-- SCRIPT is never FILE: words that would name one file twice are no command.
+use Rattle.std.proofs.Common.{◌≡◌, ◌≢◌, ℕ, Bool, true, false, List, [], ◌∷◌, Some, None, refl, subst, if◌then◌else◌}
+use Rattle.std.specs.Prelude.{not, ◌&&◌, codes, option_map}
+use Rattle.std.specs.Str.{bytes_eq}
+use Rattle.std.proofs.lemmas.Bool.Decides.{not_from_Decides}
+use Rattle.std.proofs.lemmas.Slice.Eq.{bytes_eq-Decides}
+use Rattle.std.specs.declared.option.Option.{Option}
+use Rattle.xmp_cli.specs.Commands.{Command, Get, Tree, Set, Apply, Patch, Reconcile, Check, Demo, Sync, demo_number, command}
+
+-- a command's SCRIPT, if it has one, is another text than its FILE
+abbrev pub HasApart : Command → Type 0
+HasApart (Apply file out script) = file ≢ script
+HasApart (Patch file script) = file ≢ script
+HasApart other = Unit {0}
+
+abbrev Aparts : Option Command → Type 0
+Aparts None = Unit {0}
+Aparts (Some c) = HasApart c
+
+differ : (a b : List ℕ) → bytes_eq a b ≡ false → a ≢ b
+differ a b e = not_from_Decides (bytes_eq a b) (bytes_eq-Decides a b) e
+
+number_apart : (o : Option ℕ) → Aparts (option_map Demo o)
+number_apart None = tt
+number_apart (Some number) = tt
+
+one_by : (tree check demo : Bool) (a : List ℕ) → Aparts (if tree then Some (Tree a) else if check then Some (Check a) else if demo then option_map Demo (demo_number a) else None)
+one_by true check demo a = tt
+one_by false true demo a = tt
+one_by false false true a = number_apart (demo_number a)
+one_by false false false a = tt
+
+two_by : (show same patch reconcile sync : Bool) (a b : List ℕ) → bytes_eq a b ≡ same
+    → Aparts (if show then Some (Get a b) else if same then None else if patch then Some (Patch a b) else if reconcile then Some (Reconcile a b) else if sync then Some (Sync a b) else None)
+two_by true same patch reconcile sync a b e = tt
+two_by false true patch reconcile sync a b e = tt
+two_by false false true reconcile sync a b e = differ a b e
+two_by false false false true sync a b e = tt
+two_by false false false false true a b e = tt
+two_by false false false false false a b e = tt
+
+three_by : (verb out script both : Bool) (a b c : List ℕ) → bytes_eq a c ≡ script → Aparts (if verb && not out && not script && not both then Some (Apply a b c) else None)
+three_by false out script both a b c e = tt
+three_by true true script both a b c e = tt
+three_by true false true both a b c e = tt
+three_by true false false true a b c e = tt
+three_by true false false false a b c e = differ a c e
+
+four_by : (b : Bool) (file out path value : List ℕ) → Aparts (if b then Some (Set file out path value) else None)
+four_by true file out path value = tt
+four_by false file out path value = tt
+
+words_apart : (words : List (List ℕ)) → Aparts (command words)
+words_apart [] = tt
+words_apart (v ∷ []) = tt
+words_apart (v ∷ a ∷ []) = one_by (bytes_eq v (codes "tree")) (bytes_eq v (codes "check")) (bytes_eq v (codes "demo")) a
+words_apart (v ∷ a ∷ b ∷ []) =
+    two_by (bytes_eq v (codes "get")) (bytes_eq a b) (bytes_eq v (codes "patch")) (bytes_eq v (codes "reconcile")) (bytes_eq v (codes "sync")) a b refl
+words_apart (v ∷ a ∷ b ∷ c ∷ []) = three_by (bytes_eq v (codes "apply")) (bytes_eq a b) (bytes_eq a c) (bytes_eq b c) a b c refl
+words_apart (v ∷ a ∷ b ∷ c ∷ d ∷ []) = four_by (bytes_eq v (codes "set") && not (bytes_eq a b)) a b c d
+words_apart (v ∷ a ∷ b ∷ c ∷ d ∷ e ∷ more) = tt
+
+pub apart_in : (words : List (List ℕ)) (c : Command) → command words ≡ Some c → HasApart c
+apart_in words c is = subst Aparts is (words_apart words)
