@@ -6,7 +6,7 @@
 PROGRAM is a built `xmp` (crates/xmp/out/xmp after `rt run`). Each run patches a sidecar with a
 packet that has room for the edit, and is killed after a random part of the time that a whole run
 takes. Of each file that is left there are four kinds: the old bytes, the new ones, a closed packet
-(a space, then the new bytes up to some place and the old ones behind it) which `xmp tree` refuses,
+(a space, then the new bytes up to some place and the old ones after it) which `xmp tree` refuses,
 and anything else, which is an error. Nothing of this is in the gate.
 """
 
@@ -53,7 +53,7 @@ def read(path: str) -> bytes:
 
 
 def is_closed(old: bytes, new: bytes, now: bytes) -> bool:
-    """Whether a closed packet holds the new bytes up to some place, and the old ones behind it."""
+    """Whether a closed packet holds the new bytes up to some place, and the old ones after it."""
     if len(now) != len(old) or now[:1] != b" ":
         return False
     place = next((n for n in range(1, len(now)) if now[n] != new[n]), len(now))

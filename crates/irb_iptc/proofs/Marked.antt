@@ -49,43 +49,43 @@ module _ (block : List ℕ) (at : ℕ) (within : at < length block) (marked : ge
       count : List ℕ
       count = take taken (drop (at + 1 + 2) block)
 
-      behind : List ℕ
-      behind = drop taken (drop (at + 1 + 2) block)
+      after : List ℕ
+      after = drop taken (drop (at + 1 + 2) block)
 
-      spelled : drop at block ≡ 0x1C ∷ a ∷ b ∷ (count ++ behind)
-      unfolding count behind bytes
+      spelled : drop at block ≡ 0x1C ∷ a ∷ b ∷ (count ++ after)
+      unfolding count after bytes
       spelled = fields ∙ ap (λ (l : List ℕ). 0x1C ∷ a ∷ b ∷ l) (sym (take-append-drop taken (drop (at + 1 + 2) block)))
 
-      length-behind : length behind + taken + (at + 3) ≡ length block
-      unfolding behind
-      length-behind = omega (arith, length-bytes, length-drop taken (drop (at + 1 + 2) block))
+      length-after : length after + taken + (at + 3) ≡ length block
+      unfolding after
+      length-after = omega (arith, length-bytes, length-drop taken (drop (at + 1 + 2) block))
 
       pub bytes_out : length block - (at + 3 + taken) < len → Breaks (drop at block) DatasetOut
       unfolding count
-      bytes_out h = in_bytes a b len count behind spelled counts (omega (arith, length-behind))
+      bytes_out h = in_bytes a b len count after spelled counts (omega (arith, length-after))
 
       module _ (fits : len ≤ length block - (at + 3 + taken)) where
         here : Dataset
-        here = record { section = a; number = b; count = count; bytes = take len behind }
+        here = record { section = a; number = b; count = count; bytes = take len after }
 
-        start : behind ≡ drop (at + 3 + taken) block
-        unfolding behind
+        start : after ≡ drop (at + 3 + taken) block
+        unfolding after
         start = drop-drop taken (at + 1 + 2) block ∙ ap (λ (k : ℕ). drop k block) (omega arith)
 
-        length-taken : length (take len behind) ≡ len
-        length-taken = length-take-le len behind (omega (arith, length-behind))
+        length-taken : length (take len after) ≡ len
+        length-taken = length-take-le len after (omega (arith, length-after))
 
         pub entry_found : (e : Entry) → e.start ≡ at + 3 + taken → e.len ≡ len → e.section ≡ get_or block (at + 1) 0 → e.number ≡ get_or block (at + 1 + 1) 0 → IsEntry block at e
         unfolding here count a b
         entry_found e i j k l =
-            let next : drop len behind ≡ drop (e.start + e.len) block =
+            let next : drop len after ≡ drop (e.start + e.len) block =
             ap (drop len) start ∙ drop-drop len (at + 3 + taken) block ∙ ap (λ (n : ℕ). drop n block) (omega (arith, i, j)) in
             record {
               dataset = here;
               is = subst (λ (n : ℕ). Counts count n) (sym length-taken) counts;
-              bytes = spelled ∙ ap (λ (l : List ℕ). 0x1C ∷ a ∷ b ∷ l) (ap (λ (l : List ℕ). count ++ l) (sym (take-append-drop len behind) ∙ ap (λ (l : List ℕ). take len behind ++ l) next)
-                  ∙ sym (append_assoc count (take len behind) (drop (e.start + e.len) block)));
+              bytes = spelled ∙ ap (λ (l : List ℕ). 0x1C ∷ a ∷ b ∷ l) (ap (λ (l : List ℕ). count ++ l) (sym (take-append-drop len after) ∙ ap (λ (l : List ℕ). take len after ++ l) next)
+                  ∙ sym (append_assoc count (take len after) (drop (e.start + e.len) block)));
               field = ap (λ (n : ℕ). (n, e.number, take e.len (drop e.start block))) k ∙ ap (λ (n : ℕ). (a, n, take e.len (drop e.start block))) l
                   ∙ ap (λ (l : List ℕ). (a, b, l)) (ap (λ (n : ℕ). take n (drop e.start block)) j ∙ ap (λ (n : ℕ). take len (drop n block)) i ∙ ap (take len) (sym start));
-              place = omega (arith, i, j, length-append count (take len behind), length-taken, length-take-le taken (drop (at + 1 + 2) block) most);
+              place = omega (arith, i, j, length-append count (take len after), length-taken, length-take-le taken (drop (at + 1 + 2) block) most);
             }

@@ -14,8 +14,8 @@ pub length-rest : (start : ℕ) (bytes : List ℕ) → length (take (length byte
 length-rest start bytes = ap length (take_rest bytes start) ∙ length-drop start bytes
 
 -- some bytes further on
-pub piece_behind : (n at start : ℕ) (bytes : List ℕ) → take (at + n - at) (drop at (take (length bytes - start) (drop start bytes))) ≡ take n (drop at (drop start bytes))
-piece_behind n at start bytes =
+pub piece_after : (n at start : ℕ) (bytes : List ℕ) → take (at + n - at) (drop at (take (length bytes - start) (drop start bytes))) ≡ take n (drop at (drop start bytes))
+piece_after n at start bytes =
     ap (λ (l : List ℕ). take (at + n - at) (drop at l)) (take_rest bytes start)
     ∙ ap (λ (k : ℕ). take k (drop at (drop start bytes))) (let e : at + n - at ≡ n = omega arith in e)
 

@@ -98,8 +98,8 @@ module _ (file name : List ℕ) (p : FileSpan) (order : p.start ≤ p.end) (insi
       by_length true e = leb-true 75 size e
       by_length false e = absurd (let no : true ≡ false = sym h ∙ short_named front e in cc no)
 
-  behind : 75 ≤ size → drop 75 (payload_at file p) ≡ take (size - 75) (drop (p.start + 75) file)
-  behind long =
+  after : 75 ≤ size → drop 75 (payload_at file p) ≡ take (size - 75) (drop (p.start + 75) file)
+  after long =
       let parts : size ≡ 75 + (size - 75) = omega (arith, long) in
       ap (λ (n : ℕ). drop 75 (take n (drop p.start file))) parts ∙ drop-take 75 (size - 75) (drop p.start file) ∙ ap (take (size - 75)) (drop-drop 75 p.start file)
 
@@ -110,7 +110,7 @@ module _ (file name : List ℕ) (p : FileSpan) (order : p.start ≤ p.end) (insi
       let f = front_of (long_named named) in
       let full : full_in (payload_at file p) ≡ full_in front = sym (full_same (payload_at file p)) ∙ ap full_in f in
       let offset : offset_in (payload_at file p) ≡ offset_in front = sym (offset_same (payload_at file p)) ∙ ap offset_in f in
-      (λ i. record { full = full i; offset = offset i; bytes = behind (long_named named) i } ∷ []) ∙ sym (ap (λ (o : Option Head). map (portion_in file) (option_to_list o)) is)
+      (λ i. record { full = full i; offset = offset i; bytes = after (long_named named) i } ∷ []) ∙ sym (ap (λ (o : Option Head). map (portion_in file) (option_to_list o)) is)
   by_named false head named is = sym (ap (λ (o : Option Head). map (portion_in file) (option_to_list o)) is)
 
   -- a payload has a head where it is a portion

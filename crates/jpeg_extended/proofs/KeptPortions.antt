@@ -1,4 +1,4 @@
--- Portions whose bytes are kept one behind another.
+-- Portions whose bytes are kept one after another.
 use Rattle.std.proofs.Common.{◌≡◌, ℕ, suc, ◌+◌, ◌-◌, ◌≤◌, List, [], ◌∷◌, ◌++◌, Bool, true, false, cond, map, length, take, drop, refl, sym, ap, ◌∙◌, arith, subst, Some, None, Ok, Err}
 use Rattle.std.specs.List.{list_all}
 use Rattle.std.specs.Prelude.{flat_map, OnErr}
@@ -22,7 +22,7 @@ bytes_more kept part h within =
     ap (take h.len) (drop-append-le h.at kept part (omega (arith, within)))
     ∙ take-append-le h.len (drop h.at kept) part (omega (arith, within, length-drop h.at kept))
 
--- more bytes behind those that are kept change no portion
+-- more bytes after those that are kept change no portion
 pub portions_more : (kept part : List ℕ) (hs : List Head) → AreKept kept hs → map (portion_in (kept ++ part)) hs ≡ map (portion_in kept) hs
 portions_more kept part [] a = refl
 portions_more kept part (h ∷ hs) a = (λ i. record { full = h.full; offset = h.offset; bytes = bytes_more kept part h (a 0 h (omega arith)) i } ∷ portions_more kept part hs (kept_rest kept h hs a) i)
@@ -86,7 +86,7 @@ add_none name payload j is e =
     ap (λ (ps : List Portion). record j { portions = ps })
     (sym (append-nil j.portions) ∙ ap (λ (ps : List Portion). j.portions ++ ps) (sym (no_portion name payload e) ∙ ap (λ (n : List ℕ). portion_of n payload) is))
 
--- a head, and its bytes, were kept behind the others
+-- a head, and its bytes, were kept after the others
 module _ (kept more part : List ℕ) (hs new : List Head) (h : Head) (a : AreKept kept hs) (grown : more ≡ kept ++ part) (pushed : new ≡ hs ++ h ∷ []) (at : h.at ≡ length kept) (len : h.len ≡ length part) where
   pub kept_pushed : AreKept more new
   kept_pushed =
@@ -102,7 +102,7 @@ module _ (kept more part : List ℕ) (hs new : List Head) (h : Head) (a : AreKep
       ∙ map_push (portion_in (kept ++ part)) hs h
       ∙ (λ i. portions_more kept part hs a i ++ portion_last kept part h at len i ∷ [])
 
--- what stands behind the head of a payload was kept
+-- what stands after the head of a payload was kept
 pub grown : (kept more payload : List ℕ) → more ≡ kept ++ take (length payload - 75) (drop 75 payload) → more ≡ kept ++ drop 75 payload
 grown kept more payload e = e ∙ ap (λ (l : List ℕ). kept ++ l) (take_rest payload 75)
 

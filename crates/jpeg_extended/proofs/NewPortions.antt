@@ -118,9 +118,9 @@ module _ (name : List ℕ) (capitals : AreCapitals name) (p : Portion) (fits : (
   named : name_in payload ≡ name
   named = take_at name numbers 32 capitals.0
 
-  -- behind the name
-  behind : (k : ℕ) → drop (35 + (32 + k)) payload ≡ drop k numbers
-  behind k = sym (drop-drop (32 + k) 35 payload) ∙ sym (drop-drop k 32 (name ++ numbers)) ∙ ap (drop k) (drop_at name numbers 32 capitals.0)
+  -- after the name
+  after : (k : ℕ) → drop (35 + (32 + k)) payload ≡ drop k numbers
+  after k = sym (drop-drop (32 + k) 35 payload) ∙ sym (drop-drop k 32 (name ++ numbers)) ∙ ap (drop k) (drop_at name numbers 32 capitals.0)
 
   digits : list_all is_digit name ≡ true
   digits = list_all-from_AllPass is_digit name (λ k d less. digit_of (get_or name k d) (capitals.1 k d less))
@@ -144,15 +144,15 @@ module _ (name : List ℕ) (capitals : AreCapitals name) (p : Portion) (fits : (
       same = ap (λ (l : List ℕ). bytes_eq (map capital l) name) named ∙ ap (λ (l : List ℕ). bytes_eq l name) (capitals_same name capitals.1) ∙ (bytes_eq-Decides name name).1 refl
 
   full_read : big_number 4 (drop 67 payload) ≡ p.full
-  full_read = ap (big_number 4) (behind 0) ∙ big_number-reads_back 4 p.full (big_bytes 4 p.offset ++ p.bytes) (omega (arith, fits.0))
+  full_read = ap (big_number 4) (after 0) ∙ big_number-reads_back 4 p.full (big_bytes 4 p.offset ++ p.bytes) (omega (arith, fits.0))
 
   offset_read : big_number 4 (drop 71 payload) ≡ p.offset
-  offset_read = ap (big_number 4) (behind 4) ∙ big_number-reads_back 4 p.offset p.bytes (omega (arith, fits.1))
+  offset_read = ap (big_number 4) (after 4) ∙ big_number-reads_back 4 p.offset p.bytes (omega (arith, fits.1))
 
   pub read_back : portion_of name payload ≡ p ∷ []
   read_back =
       ap (λ (b : Bool). cond b (record { full = big_number 4 (drop 67 payload); offset = big_number 4 (drop 71 payload); bytes = drop 75 payload } ∷ []) []) is_named_true
-      ∙ (λ i. record { full = full_read i; offset = offset_read i; bytes = behind 8 i } ∷ [])
+      ∙ (λ i. record { full = full_read i; offset = offset_read i; bytes = after 8 i } ∷ [])
 
 pub all_read : (name : List ℕ) (ps : List Portion) → AreCapitals name → All (λ (p : Portion). (p.full < 2 ^ 32) × (p.offset < 2 ^ 32) × (length p.bytes ≤ 65458)) ps
     → flat_map (portion_of name) (map (payload_text name) ps) ≡ ps

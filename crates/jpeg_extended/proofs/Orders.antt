@@ -86,7 +86,7 @@ none_upto x y e (f ∷ es) apart first r =
 itself : (e : Extent) → Before e e
 itself e = inr (refl, omega arith)
 
--- of two orders with the same sums, the first doesn't stand behind the other's
+-- of two orders with the same sums, the first doesn't stand after the other's
 first_before : (x y : Extent) (q r : List Extent) → RisesFrom y r → ((f : ℕ → ℕ → ℕ) → total f (x ∷ q) ≡ total f (y ∷ r)) → Before y x
 unfolding upto
 first_before x y q r rises same = elim (decide y x) [

@@ -1,4 +1,4 @@
--- The pieces of a segment, one behind another.
+-- The pieces of a segment, one after another.
 use Rattle.std.proofs.Common.{◌≡◌, ℕ, ◌+◌, ◌-◌, ◌*◌, ◌≤◌, min, List, ◌++◌, length, take, drop, sym, ap, ◌∙◌, arith, append_assoc}
 use Rattle.std.proofs.lemmas.List.{take-take, take_all, length-take, length-drop}
 use Rattle.jpeg_extended.specs.Written.{part_len, part_size}
@@ -22,6 +22,6 @@ part_is text k end is within =
 pub part_length : (text : List ℕ) (k : ℕ) → length (take part_size (drop (part_size * k) text)) ≡ part_len (length text) k
 part_length text k = omega (arith, length-take part_size (drop (part_size * k) text), length-drop (part_size * k) text)
 
--- one piece more behind those that were put
+-- one piece more after those that were put
 pub next : (n m : ℕ) (t u front piece : List ℕ) → take m u ≡ take n t ++ piece → take n t ≡ front → take m u ≡ front ++ piece
 next n m t u front piece put before = put ∙ ap (λ (l : List ℕ). l ++ piece) before

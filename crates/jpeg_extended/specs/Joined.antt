@@ -6,7 +6,7 @@ use Rattle.jpeg_extended.specs.declared.tiling.ExtStop.{ExtStop}
 use Rattle.jpeg_extended.specs.Tiling.{Tiles, IsExtFault, all_say, limit}
 use Rattle.jpeg_extended.specs.Portions.{Portion, extent}
 
--- The portions' bytes one behind another, in an order in which they tile the text, whose length each of them says.
+-- The portions' bytes one after another, in an order in which they tile the text, whose length each of them says.
 pub record Joined (ps : List Portion) (text : List ℕ) : Type 0 where
   pub some : 0 < length ps
   pub within : length text ≤ limit

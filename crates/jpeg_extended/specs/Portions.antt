@@ -25,12 +25,12 @@ extent p = record { full = p.full; offset = p.offset; len = length p.bytes }
 abbrev pub payload_text : List ℕ → Portion → List ℕ
 payload_text name p = signature ++ (name ++ (big_bytes 4 p.full ++ (big_bytes 4 p.offset ++ p.bytes)))
 
--- the name behind the signature
+-- the name after the signature
 abbrev pub name_in : List ℕ → List ℕ
 name_in front = take 32 (drop 35 front)
 
 -- A segment's payload of `len` bytes, which begins so, is a portion of the text of this name. Names
--- are compared without regard to case. No segment has more than 65,533 bytes behind its length
+-- are compared without regard to case. No segment has more than 65,533 bytes after its length
 -- (ISO 10918-1, B.1.1.4).
 abbrev pub is_named : List ℕ → List ℕ → ℕ → Bool
 is_named name front len =

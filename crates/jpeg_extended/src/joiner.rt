@@ -21,7 +21,7 @@ pub(crate) const SIGNATURE: &[u8] = b"http://ns.adobe.com/xmp/extension/\0";
 /// The length of what stands before the part of the text.
 const HEAD: usize = 75;
 
-/// The most bytes behind the length of a segment.
+/// The most bytes after the length of a segment.
 const LONGEST: u64 = 65_533;
 
 impl Head {

@@ -44,7 +44,7 @@ pub fn portion_into(text: &[u8], name: &Digits, k: usize, to: &mut [u8])
     put(to, at, part);
 }
 
-/// Puts a piece at a place, and answers the place behind it.
+/// Puts a piece at a place, and answers the place after it.
 fn put(to: &mut [u8], at: usize, piece: &[u8]) -> usize
     requires { at + length piece.now ≤ length to.old }
     ensures next { result ≡ at + length piece.now }

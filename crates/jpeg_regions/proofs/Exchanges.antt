@@ -27,9 +27,9 @@ all_before : (ss ts : List Segment) → AllByRecursion IsInner (ss ++ ts) → Al
 all_before [] ts h = tt
 all_before (s ∷ ss) ts h = (h.0, all_before ss ts h.1)
 
-all_behind : (ss ts : List Segment) → AllByRecursion IsInner (ss ++ ts) → AllByRecursion IsInner ts
-all_behind [] ts h = h
-all_behind (s ∷ ss) ts h = all_behind ss ts h.1
+all_after : (ss ts : List Segment) → AllByRecursion IsInner (ss ++ ts) → AllByRecursion IsInner ts
+all_after [] ts h = h
+all_after (s ∷ ss) ts h = all_after ss ts h.1
 
 -- where a list of regions is cut, so are the segments
 placed_split : (at : ℕ) (all : List Segment) (rs qs : List Region) → placed at all ≡ rs ++ qs
@@ -162,7 +162,7 @@ exchanged_cuts file before gone after next segments cuts inner =
         let bytes : file ≡ 0xFF ∷ 0xD8 ∷ flat_map text (a ++ (x ++ (k.0 ++ cuts.tail ∷ []))) =
         cuts.bytes ∙ ap (λ ss. 0xFF ∷ 0xD8 ∷ flat_map text ss) (whole ∙ ap (λ ss. a ++ (x ++ ss)) k.1) in
         let list : next ∷ after ≡ placed q (k.0 ++ cuts.tail ∷ []) = i ∙ ap (placed q) k.1 in
-        let made = exchange_cuts a x k.0 segments cuts.tail p q refl refl (all_before a x (all_before (a ++ x) k.0 mine)) inner (all_behind (a ++ x) k.0 mine) cuts.last in
+        let made = exchange_cuts a x k.0 segments cuts.tail p q refl refl (all_before a x (all_before (a ++ x) k.0 mine)) inner (all_after (a ++ x) k.0 mine) cuts.last in
         let place = start_of (gone ++ next ∷ after) in
         let new_file : exchanged_file file place next.range.start segments ≡ exchanged_file file p q segments =
         ap (λ (k : ℕ). exchanged_file file k next.range.start segments) start ∙ ap (λ (k : ℕ). exchanged_file file p k segments) later in

@@ -124,13 +124,13 @@ cuts_same file ls ms a b =
     (let k : flat_map text (a.segments ++ a.tail ∷ []) ≡ flat_map text (b.segments ++ b.tail ∷ []) = (let j = sym a.bytes ∙ b.bytes in cc) in
     sym (join_push a.segments a.tail) ∙ k) in
     let r = begins_list a.segments b.segments b.tail (text a.tail) a.inner b.inner b.last e in
-    let t = last_same r.0 b.tail a.tail (all_behind a.segments r.0 (subst (AllByRecursion IsInner) r.1 b.inner)) b.last a.last r.2 in
+    let t = last_same r.0 b.tail a.tail (all_after a.segments r.0 (subst (AllByRecursion IsInner) r.1 b.inner)) b.last a.last r.2 in
     a.listed ∙ ap (placed 2) (ap (λ (ss : List Segment). ss ++ a.tail ∷ []) (sym (append-nil a.segments) ∙ ap (λ (ss : List Segment). a.segments ++ ss) (sym t.0) ∙ sym r.1)
     ∙ ap (λ (s : Segment). b.segments ++ s ∷ []) t.1) ∙ sym b.listed
   where
-    all_behind : (ss mid : List Segment) → AllByRecursion IsInner (ss ++ mid) → AllByRecursion IsInner mid
-    all_behind [] mid h = h
-    all_behind (s ∷ ss) mid h = all_behind ss mid h.1
+    all_after : (ss mid : List Segment) → AllByRecursion IsInner (ss ++ mid) → AllByRecursion IsInner mid
+    all_after [] mid h = h
+    all_after (s ∷ ss) mid h = all_after ss mid h.1
 
     last_same : (mid : List Segment) (t u : Segment) → AllByRecursion IsInner mid → IsTail t → IsTail u → text u ≡ flat_map text (mid ++ t ∷ []) → (mid ≡ []) × (u ≡ t)
     last_same [] t u a b c e = (refl, tails_same u t c b (e ∙ append-nil (text t)))
@@ -141,15 +141,15 @@ pub broken_not_cut : (file : List ℕ) (rule : Rule) (place : ℕ) (ls : List Re
 broken_not_cut file rule place ls a b =
     let e : flat_map text a.segments ++ a.rest ≡ flat_map text (b.segments ++ b.tail ∷ []) = (let j = sym a.bytes ∙ b.bytes in cc) in
     let r = begins_list a.segments b.segments b.tail a.rest a.inner b.inner b.last e in
-    behind r.0 (all_behind a.segments r.0 (subst (AllByRecursion IsInner) r.1 b.inner)) r.2
+    after r.0 (all_after a.segments r.0 (subst (AllByRecursion IsInner) r.1 b.inner)) r.2
   where
-    all_behind : (ss mid : List Segment) → AllByRecursion IsInner (ss ++ mid) → AllByRecursion IsInner mid
-    all_behind [] mid h = h
-    all_behind (s ∷ ss) mid h = all_behind ss mid h.1
+    all_after : (ss mid : List Segment) → AllByRecursion IsInner (ss ++ mid) → AllByRecursion IsInner mid
+    all_after [] mid h = h
+    all_after (s ∷ ss) mid h = all_after ss mid h.1
 
-    behind : (mid : List Segment) → AllByRecursion IsInner mid → a.rest ≡ flat_map text (mid ++ b.tail ∷ []) → ⊥
-    behind [] h e = no_segment a.rest rule b.tail [] a.breaks (inr b.last) e
-    behind (m ∷ mid) h e = no_segment a.rest rule m (flat_map text (mid ++ b.tail ∷ [])) a.breaks (inl h.0) e
+    after : (mid : List Segment) → AllByRecursion IsInner mid → a.rest ≡ flat_map text (mid ++ b.tail ∷ []) → ⊥
+    after [] h e = no_segment a.rest rule b.tail [] a.breaks (inr b.last) e
+    after (m ∷ mid) h e = no_segment a.rest rule m (flat_map text (mid ++ b.tail ∷ [])) a.breaks (inl h.0) e
 
 -- one place where the list breaks
 rests_same : (ss ts : List Segment) (x y : List ℕ) (r q : Rule) → AllByRecursion IsInner ss → AllByRecursion IsInner ts → Breaks x r → Breaks y q

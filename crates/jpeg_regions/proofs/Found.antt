@@ -106,7 +106,7 @@ short_of [] h = tt
 short_of (x ∷ []) h = tt
 short_of (x ∷ y ∷ xs) h = absurd (omega arith)
 
--- the file ends behind FF bytes
+-- the file ends after FF bytes
 pub fill_ends : (file piece : List ℕ) (start at : ℕ) → AfterFill file start at → piece ≡ take 1 (drop at file) → length piece ≡ 0 → Breaks (drop start file) Truncated
 fill_ends file piece start at a e h =
     filling a.fill a.filled (a.bytes ∙ ap (λ (l : List ℕ). replicate a.fill 0xFF ++ l) (none_left (drop at file) piece 1 e (lit< tt) h) ∙ append-nil (replicate a.fill 0xFF))

@@ -40,7 +40,7 @@ chosen_same a b c x y z e f g = cc
 first_kind_of-take : (xs : List ℕ) → first_kind_of (take 75 xs) ≡ first_kind_of xs
 first_kind_of-take xs = chosen_same _ _ _ _ _ _ (begins-take 75 xs packet_signature (lit≤ tt)) (portion-take xs) (exif-take xs)
 
--- no payload counts behind another marker
+-- no payload counts after another marker
 abbrev picked : (a b c d : Bool) → List ℕ → RegionKind
 picked a b c d xs = cond a App0 (cond b (first_kind_of xs) (cond (c && starts_with nat_eq xs mpf_signature) Mpf (cond (d && starts_with nat_eq xs resources_signature) Resources Other)))
 

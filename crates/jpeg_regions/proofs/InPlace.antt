@@ -18,15 +18,15 @@ use Rattle.jpeg_regions.proofs.Fronts.{begins-take}
 
 put_mid : (x y rest new : List ℕ) → length y ≡ length new → put_at (x ++ (y ++ rest)) (length x) new ≡ x ++ (new ++ rest)
 put_mid x y rest new same =
-    let behind : drop (length x + length new) (x ++ (y ++ rest)) ≡ rest =
+    let after : drop (length x + length new) (x ++ (y ++ rest)) ≡ rest =
     sym (drop-drop (length new) (length x) (x ++ (y ++ rest))) ∙ ap (drop (length new)) (drop_at x (y ++ rest) (length x) refl) ∙ drop_at y rest (length new) same in
-    (λ i. take_at x (y ++ rest) (length x) refl i ++ new ++ behind i) ∙ append_assoc x new rest
+    (λ i. take_at x (y ++ rest) (length x) refl i ++ new ++ after i) ∙ append_assoc x new rest
 
 put_past : (x rest new : List ℕ) (k : ℕ) → put_at (x ++ rest) (length x + k) new ≡ x ++ put_at rest k new
 put_past x rest new k =
-    let behind : drop (length x + k + length new) (x ++ rest) ≡ drop (k + length new) rest =
+    let after : drop (length x + k + length new) (x ++ rest) ≡ drop (k + length new) rest =
     ap (λ (n : ℕ). drop n (x ++ rest)) (omega arith) ∙ sym (drop-drop (k + length new) (length x) (x ++ rest)) ∙ ap (drop (k + length new)) (drop_at x rest (length x) refl) in
-    (λ i. take-append-add x rest k i ++ new ++ behind i)
+    (λ i. take-append-add x rest k i ++ new ++ after i)
     ∙ ap (λ (l : List ℕ). l ++ drop (k + length new) rest) (append_assoc x (take k rest) new)
     ∙ append_assoc x (take k rest ++ new) (drop (k + length new) rest)
 

@@ -31,7 +31,7 @@ start_by Single at s = refl
 start_by Last at s = refl
 start_by Sized at s = refl
 
--- a region reaches behind its marker
+-- a region reaches after its marker
 head_by : (c : Class) (at : ℕ) (s : Segment) → (c ≡ Sized → HasLength s.body) → at + s.fill + 1 ≤ near_end (region_by c at s)
 head_by Fill at s h = omega arith
 head_by Refused at s h = omega arith
@@ -76,9 +76,9 @@ first_left : (mid : List Segment) (tail : Segment) → AllByRecursion IsInner mi
 first_left [] tail a b = (tail, [], refl, inr b)
 first_left (m ∷ mid) tail a b = (m, mid ++ tail ∷ [], refl, inl a.0)
 
-all_behind : (ss mid : List Segment) → AllByRecursion IsInner (ss ++ mid) → AllByRecursion IsInner mid
-all_behind [] mid h = h
-all_behind (s ∷ ss) mid h = all_behind ss mid h.1
+all_after : (ss mid : List Segment) → AllByRecursion IsInner (ss ++ mid) → AllByRecursion IsInner mid
+all_after [] mid h = h
+all_after (s ∷ ss) mid h = all_after ss mid h.1
 
 -- What is wanted is in the region's beginning, whatever was wanted before.
 within_region : (file : List ℕ) (start at : ℕ) (wants : Wants) (x : Segment) (more : List ℕ) → Reads file start at wants → IsSegment x
@@ -113,7 +113,7 @@ pub near_wanted : (file : List ℕ) (found : List Found) (start at len : ℕ) (w
 near_wanted file found start at len wants regions m u a b low high order =
     let e : flat_map text u.segments ++ drop start file ≡ flat_map text (b.segments ++ b.tail ∷ []) = (let j = sym u.bytes ∙ b.bytes in cc) in
     let r = begins_list u.segments b.segments b.tail (drop start file) u.inner b.inner b.last e in
-    let f = first_left r.0 b.tail (all_behind u.segments r.0 (subst (AllByRecursion IsInner) r.1 b.inner)) b.last in
+    let f = first_left r.0 b.tail (all_after u.segments r.0 (subst (AllByRecursion IsInner) r.1 b.inner)) b.last in
     let x = f.0 in
     let here : drop start file ≡ text x ++ flat_map text f.1 = r.2 ∙ ap (flat_map text) f.2 in
     let list : regions ≡ placed 2 (u.segments ++ x ∷ f.1) =

@@ -14,7 +14,7 @@ use Rattle.jpeg_regions.specs.Reads.{Reads, region_of, work}
 abbrev pub BeginsJpeg : List ℕ → Type 0
 BeginsJpeg file = take 2 file ≡ 0xFF ∷ 0xD8 ∷ []
 
--- the regions lie one after another from a place up to another, each with its payload behind its marker
+-- the regions lie one after another from a place up to another, each with its payload after its marker
 abbrev pub Tiles : ℕ → ℕ → List Region → Type 0
 Tiles at end [] = at ≡ end
 Tiles at end (r ∷ rs) = (r.range.start ≡ at) × (at < r.payload.start) × (r.payload.start ≤ r.payload.end) × (r.payload.end ≤ r.range.end)

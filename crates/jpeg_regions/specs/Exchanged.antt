@@ -25,7 +25,7 @@ abbrev pub exchanged_list : List Region → ℕ → ℕ → List Segment → Lis
 exchanged_list before start end segments after =
     before ++ (placed start segments ++ map (moved end (start + length (flat_map text segments))) after)
 
--- a file with a packet, behind its signature of 29 bytes, exchanged for one of its length
+-- a file with a packet, after its signature of 29 bytes, exchanged for one of its length
 abbrev pub PacketExchanged : Type 0
 PacketExchanged =
     (file : List ℕ) (regions : List Region) (i : ℕ) (r : Region) (packet : List ℕ) → Jpeg file regions → slice_get regions i ≡ Some r → is_main r.kind ≡ true

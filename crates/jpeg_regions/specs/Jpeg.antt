@@ -12,7 +12,7 @@ use Rattle.jpeg_regions.specs.declared.kind.RegionKind.TheVariants.{Main, Portio
 use Rattle.jpeg_regions.specs.Markers.{class_of}
 use Rattle.jpeg_regions.specs.Kinds.{kind_of}
 
--- A marker with what belongs to it: the number of FF bytes before its second byte, that byte, and the bytes behind it.
+-- A marker with what belongs to it: the number of FF bytes before its second byte, that byte, and the bytes after it.
 pub record Segment : Type 0 where
   pub fill : ℕ
   pub marker : ℕ
@@ -45,7 +45,7 @@ pub record IsTail (s : Segment) : Type 0 where
   pub filled : 0 < s.fill
   pub last : class_of s.marker ≡ Last
 
--- What a file has at a place: the kind, the whole range, and the range of the payload, which is empty behind a marker
+-- What a file has at a place: the kind, the whole range, and the range of the payload, which is empty after a marker
 -- without length.
 pub record Region : Type 0 where
   pub kind : RegionKind
@@ -55,7 +55,7 @@ pub record Region : Type 0 where
 abbrev pub span : ℕ → ℕ → FileSpan
 span start end = record { start = start; end = end }
 
--- a region without a payload: its range is empty, behind the marker
+-- a region without a payload: its range is empty, after the marker
 abbrev pub bare : RegionKind → ℕ → Segment → Region
 bare kind at s = record {
   kind = kind;

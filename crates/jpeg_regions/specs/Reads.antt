@@ -14,7 +14,7 @@ use Rattle.jpeg_regions.specs.declared.reading.Step.TheVariants.{More, Inner, La
 use Rattle.jpeg_regions.specs.Markers.{class_of}
 use Rattle.jpeg_regions.specs.Jpeg.{Segment, Region, text, span, region, IsInner, IsTail, Breaks, FaultIn}
 
--- behind the region's start stand FF bytes up to a place
+-- after the region's start stand FF bytes up to a place
 pub record AfterFill (file : List ℕ) (start at : ℕ) : Type 0 where
   pub fill : ℕ
   pub filled : 0 < fill

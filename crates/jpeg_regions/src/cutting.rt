@@ -8,7 +8,7 @@ use crate::list::Regions;
 use crate::reading::{Found, Reading, Step};
 use std::alloc::Global;
 
-/// Takes the bytes that were wanted, and answers how to go on: not at all behind the tail.
+/// Takes the bytes that were wanted, and answers how to go on: not at all after the tail.
 pub fn take(
     found: &mut Vec<Found>,
     reading: Reading,

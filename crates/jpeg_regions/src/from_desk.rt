@@ -50,8 +50,8 @@ fn advance<D: Desk>(
 }
 
 impl Regions {
-    /// The regions of a file of a device. Of a region no byte is read behind the 75th of its
-    /// payload, and of the tail none behind its marker. A file that has gone since it was known
+    /// The regions of a file of a device. Of a region no byte is read after the 75th of its
+    /// payload, and of the tail none after its marker. A file that has gone since it was known
     /// has no byte left. A fault is the first broken rule, of 10 to 14, with its place in the file.
     pub fn cut_from<D: Desk>(alloc: Global, desk: &mut D, name: &str) -> Result<Regions, CutStop>
         requires known { IsTrue (is_known (D.state desk.old) name.now) }

@@ -85,7 +85,7 @@ impl Regions {
         }
     }
 
-    /// The bytes of region `i` behind its length, by places in the file. Empty for a marker without length and for the tail.
+    /// The bytes of region `i` after its length, by places in the file. Empty for a marker without length and for the tail.
     pub fn payload(&self, i: usize) -> FileSpan
         requires { i < length self.now }
         ensures { option_map (λ r. r.payload) (slice_get self.now i) ≡ Some result }

@@ -2,7 +2,7 @@
 ghost use Rattle.std.specs.Prelude.{◌≡◌};
 ghost use Rattle.jpeg_regions.specs.Markers.{class_of};
 
-/// What stands behind the second byte of a marker.
+/// What stands after the second byte of a marker.
 #[derive(Clone, Copy, Debug, PartialEq, Eq)]
 pub enum Class {
     /// The byte is no marker yet: more FF bytes may come.

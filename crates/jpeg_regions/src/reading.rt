@@ -1,7 +1,7 @@
 //! One region, read piece by piece.
 //!
 //! A reader says which bytes it wants next and is given them. It never wants a byte that may
-//! stand behind a tail's marker, so it can be run over a device that must not read a tail.
+//! stand after a tail's marker, so it can be run over a device that must not read a tail.
 ghost use Rattle.std.specs.Prelude.{◌≡◌, ℕ, ◌+◌, ◌-◌, ◌≤◌, ◌<◌, List, length, take, drop, min};
 ghost use Rattle.jpeg_regions.specs.Wanted.{count_of, least_of, payload_of};
 ghost use Rattle.jpeg_regions.specs.declared.reading.Wants.TheVariants.{Start};
@@ -17,11 +17,11 @@ use xmp_values::Rule;
 pub enum Wants {
     /// The first two bytes of a region: FF, and FF or the marker's second byte.
     Start,
-    /// The byte behind FF bytes.
+    /// The byte after FF bytes.
     Marker,
-    /// The length behind this marker.
+    /// The length after this marker.
     Length(u8),
-    /// The beginning of a payload, behind this marker, with this length.
+    /// The beginning of a payload, after this marker, with this length.
     Payload(u8, u16),
 }
 
@@ -146,7 +146,7 @@ impl Reading {
         }
     }
 
-    /// The byte at `place`, behind FF bytes.
+    /// The byte at `place`, after FF bytes.
     fn mark(self, place: u64, byte: u8) -> Result<Step, Rule>
         requires at { self.at ≤ place }
         requires order { self.start < place }

@@ -8,7 +8,7 @@ use std::test::Fail;
 use xmp_base::{FileSpan, MemoryDesk, SparseDesk};
 use xmp_values::{Memory, Rule};
 
-/// A file: FF D8, and these bytes behind it.
+/// A file: FF D8, and these bytes after it.
 fn file_of(alloc: Global, rest: &[u8]) -> Result<Vec<u8>, AllocError>
     ensures { IfOk result (λ file. BeginsJpeg file.items) }
 {
@@ -51,7 +51,7 @@ fn cut_on_desk(alloc: Global, file: &[u8], failing: u64) -> Result<Result<Region
     Ok(Regions::cut_from(alloc, &mut desk, "a.jpg"))
 }
 
-/// Cuts a file of this length that begins with these bytes and a second byte DA behind them.
+/// Cuts a file of this length that begins with these bytes and a second byte DA after them.
 fn cut_sparse(alloc: Global, front: &[u8], len: u64) -> Result<Result<Regions, CutStop>, Memory> {
     let mut desk = SparseDesk::new(alloc, "a.jpg", len)?;
     desk.piece(0, front)?;

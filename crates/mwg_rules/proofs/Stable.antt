@@ -81,11 +81,11 @@ all_other p (q ∷ qs) cs ms apart =
     all_other p qs cs (put q (texts_of (chosen cs q)) ms) both.1 ∙ put_other p q (texts_of (chosen cs q)) ms both.0
 
 -- the properties before and after one
-split_here : (p : Property) (before behind : List Property) (cs : List (Option Choice)) (ms : List Member) → list_all (is_other p) before ≡ true → list_all (is_other p) behind ≡ true
-    → value_named (name_of p) (put_all (before ++ p ∷ behind) cs ms) ≡ after (form_of p) (texts_of (chosen cs p)) (value_named (name_of p) ms)
-split_here p before behind cs ms b c =
-    ap (value_named (name_of p)) (put_all-append before (p ∷ behind) cs ms)
-    ∙ all_other p behind cs (put p (texts_of (chosen cs p)) (put_all before cs ms)) c
+split_here : (p : Property) (before rest : List Property) (cs : List (Option Choice)) (ms : List Member) → list_all (is_other p) before ≡ true → list_all (is_other p) rest ≡ true
+    → value_named (name_of p) (put_all (before ++ p ∷ rest) cs ms) ≡ after (form_of p) (texts_of (chosen cs p)) (value_named (name_of p) ms)
+split_here p before rest cs ms b c =
+    ap (value_named (name_of p)) (put_all-append before (p ∷ rest) cs ms)
+    ∙ all_other p rest cs (put p (texts_of (chosen cs p)) (put_all before cs ms)) c
     ∙ put_here p (texts_of (chosen cs p)) (put_all before cs ms)
     ∙ ap (after (form_of p) (texts_of (chosen cs p))) (all_other p before cs ms b)
 

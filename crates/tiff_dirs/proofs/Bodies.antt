@@ -52,7 +52,7 @@ body_known l file first at n len next end old new seen shown d items size count 
   pictures = p.0 ∙ ap (λ (es : List Entry). seen ++ spans_of (pictures_of l file es)) e;
 }
 
--- the bytes behind the count are a part of the directory
+-- the bytes after the count are a part of the directory
 pub body_read : (s t : DeskState) (name : List ℕ) (l : Layout) (at n : ℕ) → ReadInside s t name (at + l.count) (at + l.count + (l.entry * n + l.word))
     → Told s.files (λ files. n ≡ count_at l (bytes_of files name) at) → Reads s t name (λ file. tables_at l file at)
 body_read s t name l at n a count =

@@ -70,13 +70,13 @@ module _ (l : Layout) (widths : Widths l) (a b : List ℕ) (longer : length a �
       ∙ ap (λ (t : List FileSpan). pictures_at l a x ++ t) (shown_all xs (λ y h. sub y (tail_member x xs y h)))
 
   module _ (at new : ℕ) (first : first_offset l b ≡ new) (names : children l b new ≡ children l a at) (clear : fault_at l b [] new ≡ None) (fresh : Contains rest new → ⊥) where
-    behind : (xs : List ℕ) → ((x : ℕ) → Contains xs x → Contains rest x) → children l b new ++ flat_map (children l b) xs ≡ children l a at ++ flat_map (children l a) xs
-    behind xs sub = ap (λ (t : List ℕ). t ++ flat_map (children l b) xs) names ∙ ap (λ (t : List ℕ). children l a at ++ t) (named_all xs sub)
+    after : (xs : List ℕ) → ((x : ℕ) → Contains xs x → Contains rest x) → children l b new ++ flat_map (children l b) xs ≡ children l a at ++ flat_map (children l a) xs
+    after xs sub = ap (λ (t : List ℕ). t ++ flat_map (children l b) xs) names ∙ ap (λ (t : List ℕ). children l a at ++ t) (named_all xs sub)
 
     each_by : Reaches l a (at ∷ rest) → (k x : ℕ) → slice_get (new ∷ rest) k ≡ Some x → slice_get (all_named l b (take k (new ∷ rest))) k ≡ Some x
     unfolding all_named
     each_by r zero x e = ap Some first ∙ e
-    each_by r (suc k) x e = ap (λ (t : List ℕ). slice_get t k) (behind (take k rest) (λ y h. front_in rest k y h)) ∙ r.each (suc k) x e
+    each_by r (suc k) x e = ap (λ (t : List ℕ). slice_get t k) (after (take k rest) (λ y h. front_in rest k y h)) ∙ r.each (suc k) x e
 
     sound_by : Reaches l a (at ∷ rest) → (k x : ℕ) → slice_get (new ∷ rest) k ≡ Some x → fault_at l b (take k (new ∷ rest)) x ≡ None
     sound_by r zero x e = let is : new ≡ x = (cc e) in subst (λ (n : ℕ). fault_at l b [] n ≡ None) is clear
@@ -89,7 +89,7 @@ module _ (l : Layout) (widths : Widths l) (a b : List ℕ) (longer : length a �
     unfolding all_named
     all_by e =
         let tail : children l a at ++ flat_map (children l a) rest ≡ rest = (cc e) in
-        ap (λ (n : ℕ). n ∷ (children l b new ++ flat_map (children l b) rest)) first ∙ ap (λ (t : List ℕ). new ∷ t) (behind rest (λ y h. h) ∙ tail)
+        ap (λ (n : ℕ). n ∷ (children l b new ++ flat_map (children l b) rest)) first ∙ ap (λ (t : List ℕ). new ∷ t) (after rest (λ y h. h) ∙ tail)
 
     pub reaches_by : Reaches l a (at ∷ rest) → Reaches l b (new ∷ rest)
     reaches_by r = record { each = each_by r; sound = sound_by r }

@@ -107,7 +107,7 @@ range_front xs i to x e h =
     ap (take (to - i)) (drop_at xs i x e) ∙ ap (λ (k : ℕ). take k (x ∷ drop (i + 1) xs)) n
 
 module _ (mine : FileSpan) (f : Entry → List FileSpan) where
-  -- an entry, and those behind it up to a place
+  -- an entry, and those after it up to a place
   pub values_more : (best next : Option FileSpan) (es : List Entry) (i to : ℕ) (e : Entry) → slice_get es i ≡ Some e → i < to → next ≡ closest mine best (f e)
       → closest mine next (flat_map f (take (to - (i + 1)) (drop (i + 1) es))) ≡ closest mine best (flat_map f (take (to - i) (drop i es)))
   values_more best next es i to e at h is =
@@ -124,7 +124,7 @@ whole_range : (es : List Entry) (n : ℕ) → n ≡ length es → take (n - 0) (
 whole_range es n e = take_all (n - 0) es (omega arith)
 
 module _ (mine : FileSpan) (l : Layout) where
-  -- a directory, and those behind it
+  -- a directory, and those after it
   pub dirs_more : (best mid next : Option FileSpan) (ds : List Dir) (i n : ℕ) (s : FileSpan) → i < length ds → option_map dir_span (slice_get ds i) ≡ Some s
       → n ≡ length (entries_in (slice_get ds i)) → mid ≡ closer mine best s
       → next ≡ closest mine mid (flat_map (apart_of l) (take (n - 0) (drop 0 (entries_in (slice_get ds i)))))
@@ -190,14 +190,14 @@ place_here tag es i e at h inv =
     let none : place_of tag (e ∷ drop (i + 1) es) ≡ 0 = grind (arith, nat_tests, h) in
     omega (arith, here, none, inv)
 
-pub place_behind : (tag : ℕ) (es : List Entry) (i : ℕ) (e : Entry) → slice_get es i ≡ Some e → e.tag ≢ tag → i + place_of tag (drop i es) ≡ place_of tag es
+pub place_after : (tag : ℕ) (es : List Entry) (i : ℕ) (e : Entry) → slice_get es i ≡ Some e → e.tag ≢ tag → i + place_of tag (drop i es) ≡ place_of tag es
     → i + 1 + place_of tag (drop (i + 1) es) ≡ place_of tag es
-place_behind tag es i e at h inv =
+place_after tag es i e at h inv =
     let here : place_of tag (drop i es) ≡ place_of tag (e ∷ drop (i + 1) es) = ap (place_of tag) (drop_at es i e at) in
     let one : place_of tag (e ∷ drop (i + 1) es) ≡ 1 + place_of tag (drop (i + 1) es) = grind (arith, nat_tests, h) in
     omega (arith, here, one, inv)
 
--- a picture, and those behind it
+-- a picture, and those after it
 pub pictures_more : (mine : FileSpan) (best next : Option FileSpan) (ps : List FileSpan) (i : ℕ) (p : FileSpan) → slice_get ps i ≡ Some p → next ≡ closer mine best p
     → closest mine next (drop (i + 1) ps) ≡ closest mine best (drop i ps)
 pictures_more mine best next ps i p at e =

@@ -8,7 +8,7 @@ use Rattle.tiff_dirs.specs.Layouts.{layout_of}
 use Rattle.tiff_dirs.specs.Directories.{entries_at, end_at}
 use Rattle.tiff_dirs.specs.Pictures.{pictures_of, spans_of, first_of_tag}
 
--- a directory: its offset, its end behind the offset of the next, and its entries
+-- a directory: its offset, its end after the offset of the next, and its entries
 pub record Dir : Type 0 where
   pub at : ℕ
   pub end : ℕ

@@ -11,7 +11,7 @@ use xmp_values::{Memory, Rule};
 /// The two layouts in the two byte orders: whether it is BigTIFF, and whether it is big-endian.
 const FORMS: [(bool, bool); 4] = [(false, false), (false, true), (true, false), (true, true)];
 
-/// The numbers of a file behind its first four bytes.
+/// The numbers of a file after its first four bytes.
 #[derive(Drop)]
 struct Body {
     wide: bool,
@@ -41,8 +41,8 @@ impl Body {
         requires { width ≤ 8 }
     {
         for k in 0..width {
-            let behind = if self.big { width - 1 - k } else { k };
-            let byte = (number >> (8 * behind)) & 0xff;
+            let place = if self.big { width - 1 - k } else { k };
+            let byte = (number >> (8 * place)) & 0xff;
             self.bytes.push(byte as u8)?;
         }
         Ok(())
@@ -97,7 +97,7 @@ fn walked(alloc: Global, file: &[u8]) -> Result<Walked, Memory>
     }
 }
 
-/// A directory of two entries, a strip of four bytes behind it and its length, and the strip.
+/// A directory of two entries, a strip of four bytes after it and its length, and the strip.
 fn one_strip(alloc: Global, form: (bool, bool)) -> Result<Vec<u8>, AllocError>
     ensures { IfOk result (λ file. BeginsTiff file.items) }
 {
@@ -150,7 +150,7 @@ fn walk_long(alloc: Global, big: bool, count: u64) -> Result<Walked, Memory> {
     walked(alloc, file.as_slice())
 }
 
-/// Walks a file of one directory of these entries, with zeros behind it.
+/// Walks a file of one directory of these entries, with zeros after it.
 fn walk_one(
     alloc: Global,
     form: (bool, bool),

@@ -21,7 +21,7 @@ use Rattle.xmp_write.specs.ValueLines.{lines_at}
 use Rattle.xmp_values.specs.Stops.{fault_at}
 use Rattle.xmp_files.specs.Stages.{followed}
 
--- a rule that PATH breaks, the second word behind the command
+-- a rule that PATH breaks, the second word after the command
 abbrev pub path_fault : Rule → Fault
 path_fault rule = fault_at rule Words 2
 

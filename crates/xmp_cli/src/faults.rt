@@ -9,7 +9,7 @@ use crate::status::Status;
 use xmp_files::no_file;
 use xmp_values::{Fault, FileStop, Part, Rule};
 
-/// A rule that PATH breaks, the second word behind the command.
+/// A rule that PATH breaks, the second word after the command.
 pub fn path_fault(rule: Rule) -> Fault
     ensures { result ≡ path_fault rule }
 {

@@ -4,7 +4,7 @@ use Rattle.std.specs.Prelude.{◌==◌}
 use Rattle.std.proofs.lemmas.Bool.{eq-eqb, ne_eqb}
 use Rattle.std.specs.Str.{byte}
 use Rattle.xmp_paths.specs.Grammar.{consed}
-use Rattle.xmp_paths.proofs.Collected.{behind, behind_more}
+use Rattle.xmp_paths.proofs.Collected.{after, after_more}
 use Rattle.xmp_edit.specs.Lines.{escape_of, unescaped_from}
 
 module _ (text : List ℕ) (i : ℕ) (within : i < length text) (bytes : List ℕ) where
@@ -14,18 +14,18 @@ module _ (text : List ℕ) (i : ℕ) (within : i < length text) (bytes : List �
   abbrev rest : List ℕ
   rest = drop (i + 1) text
 
-  cut : (e : Bool) → behind bytes (unescaped_from e (drop i text)) ≡ behind bytes (unescaped_from e (here ∷ rest))
+  cut : (e : Bool) → after bytes (unescaped_from e (drop i text)) ≡ after bytes (unescaped_from e (here ∷ rest))
   cut e =
       let next : suc i ≡ i + 1 = omega arith in
-      ap (λ xs. behind bytes (unescaped_from e xs)) (drop-cons text i 0 within ∙ ap (λ k. here ∷ drop k text) next)
+      ap (λ xs. after bytes (unescaped_from e xs)) (drop-cons text i 0 within ∙ ap (λ k. here ∷ drop k text) next)
 
-  pub escape_more : (told : ℕ) → escape_of here ≡ Some told → behind bytes (unescaped_from true (drop i text)) ≡ behind (bytes ++ told ∷ []) (unescaped_from false rest)
-  escape_more told is = cut true ∙ ap (λ o. behind bytes (consed o (unescaped_from false rest))) is ∙ sym (behind_more bytes told (unescaped_from false rest))
+  pub escape_more : (told : ℕ) → escape_of here ≡ Some told → after bytes (unescaped_from true (drop i text)) ≡ after (bytes ++ told ∷ []) (unescaped_from false rest)
+  escape_more told is = cut true ∙ ap (λ o. after bytes (consed o (unescaped_from false rest))) is ∙ sym (after_more bytes told (unescaped_from false rest))
 
-  pub escape_begins : here ≡ 92 → behind bytes (unescaped_from false (drop i text)) ≡ behind bytes (unescaped_from true rest)
-  escape_begins is = cut false ∙ ap (λ b. behind bytes (cond b (unescaped_from true rest) (consed (Some here) (unescaped_from false rest)))) (eq-eqb here 92 is)
+  pub escape_begins : here ≡ 92 → after bytes (unescaped_from false (drop i text)) ≡ after bytes (unescaped_from true rest)
+  escape_begins is = cut false ∙ ap (λ b. after bytes (cond b (unescaped_from true rest) (consed (Some here) (unescaped_from false rest)))) (eq-eqb here 92 is)
 
-  pub plain_more : (here ≡ 92 → ⊥) → behind bytes (unescaped_from false (drop i text)) ≡ behind (bytes ++ here ∷ []) (unescaped_from false rest)
+  pub plain_more : (here ≡ 92 → ⊥) → after bytes (unescaped_from false (drop i text)) ≡ after (bytes ++ here ∷ []) (unescaped_from false rest)
   plain_more other =
-      cut false ∙ ap (λ b. behind bytes (cond b (unescaped_from true rest) (consed (Some here) (unescaped_from false rest)))) (ne_eqb here 92 other)
-      ∙ sym (behind_more bytes here (unescaped_from false rest))
+      cut false ∙ ap (λ b. after bytes (cond b (unescaped_from true rest) (consed (Some here) (unescaped_from false rest)))) (ne_eqb here 92 other)
+      ∙ sym (after_more bytes here (unescaped_from false rest))

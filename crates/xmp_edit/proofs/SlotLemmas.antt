@@ -98,9 +98,9 @@ found_next n x ss k i other f at = subst (FoundAt n (Some x ∷ ss)) at record {
 abbrev Finds : Name → List (Option Member) → Type 0
 Finds n ss = (i : ℕ) → slot_of n ss ≡ Some i → FoundAt n ss i
 
-found_behind : (n : Name) (ss : List (Option Member)) → Finds n ss → (i : ℕ) (o : Option ℕ) → slot_of n ss ≡ o → option_map (λ i. suc i) o ≡ Some i → FoundAt n (None ∷ ss) i
-found_behind n ss rec i (Some k) is at = found_past n ss k i (rec k is) (same_Some (suc k) i at)
-found_behind n ss rec i None is at = absurd (none-some i at)
+found_after : (n : Name) (ss : List (Option Member)) → Finds n ss → (i : ℕ) (o : Option ℕ) → slot_of n ss ≡ o → option_map (λ i. suc i) o ≡ Some i → FoundAt n (None ∷ ss) i
+found_after n ss rec i (Some k) is at = found_past n ss k i (rec k is) (same_Some (suc k) i at)
+found_after n ss rec i None is at = absurd (none-some i at)
 
 found_other : (n : Name) (x : Member) (ss : List (Option Member)) → Finds n ss → (i : ℕ) → same_name (name_of x) n ≡ false → (o : Option ℕ) → slot_of n ss ≡ o → option_map (λ i. suc i) o ≡ Some i → FoundAt n (Some x ∷ ss) i
 found_other n x ss rec i other (Some k) is at = found_next n x ss k i other (rec k is) (same_Some (suc k) i at)
@@ -112,7 +112,7 @@ found_member n x ss rec i false other at = found_other n x ss rec i other (slot_
 
 found_at : (n : Name) (ss : List (Option Member)) (i : ℕ) → slot_of n ss ≡ Some i → FoundAt n ss i
 found_at n [] i at = absurd (none-some i at)
-found_at n (None ∷ ss) i at = found_behind n ss (found_at n ss) i (slot_of n ss) refl at
+found_at n (None ∷ ss) i at = found_after n ss (found_at n ss) i (slot_of n ss) refl at
 found_at n (Some x ∷ ss) i at = found_member n x ss (found_at n ss) i (same_name (name_of x) n) refl at
 
 later_none : (o : Option ℕ) → option_map (λ i. suc i) o ≡ None → o ≡ None
@@ -222,9 +222,9 @@ not_same false h = refl
 abbrev Outs : Name → List (Option Member) → Type 0
 Outs n ss = (i : ℕ) → slot_of n ss ≡ Some i → slot_of n (slice_set ss i None) ≡ None
 
-out_behind : (n : Name) (ss : List (Option Member)) → Outs n ss → (i : ℕ) (o : Option ℕ) → slot_of n ss ≡ o → option_map (λ i. suc i) o ≡ Some i → slot_of n (slice_set (None ∷ ss) i None) ≡ None
-out_behind n ss rec i (Some k) is at = subst (λ j. slot_of n (slice_set (None ∷ ss) j None) ≡ None) (same_Some (suc k) i at) (ap (option_map (λ i. suc i)) (rec k is))
-out_behind n ss rec i None is at = absurd (none-some i at)
+out_after : (n : Name) (ss : List (Option Member)) → Outs n ss → (i : ℕ) (o : Option ℕ) → slot_of n ss ≡ o → option_map (λ i. suc i) o ≡ Some i → slot_of n (slice_set (None ∷ ss) i None) ≡ None
+out_after n ss rec i (Some k) is at = subst (λ j. slot_of n (slice_set (None ∷ ss) j None) ≡ None) (same_Some (suc k) i at) (ap (option_map (λ i. suc i)) (rec k is))
+out_after n ss rec i None is at = absurd (none-some i at)
 
 out_other : (n : Name) (x : Member) (ss : List (Option Member)) → Outs n ss → (i : ℕ) → same_name (name_of x) n ≡ false → (o : Option ℕ) → slot_of n ss ≡ o → option_map (λ i. suc i) o ≡ Some i → slot_of n (slice_set (Some x ∷ ss) i None) ≡ None
 out_other n x ss rec i other (Some k) is at =
@@ -243,7 +243,7 @@ out_member n x ss apart rec i false other at = out_other n x ss rec i other (slo
 
 slot_of-out : (n : Name) (ss : List (Option Member)) → NamesDiffer (present ss) → (i : ℕ) → slot_of n ss ≡ Some i → slot_of n (slice_set ss i None) ≡ None
 slot_of-out n [] apart i at = refl
-slot_of-out n (None ∷ ss) apart i at = out_behind n ss (slot_of-out n ss apart) i (slot_of n ss) refl at
+slot_of-out n (None ∷ ss) apart i at = out_after n ss (slot_of-out n ss apart) i (slot_of n ss) refl at
 slot_of-out n (Some x ∷ ss) apart i at =
     out_member n x ss apart (slot_of-out n ss (λ j k d lt within. apart (suc j) (suc k) d (omega arith) (omega arith))) i (same_name (name_of x) n) refl at
 

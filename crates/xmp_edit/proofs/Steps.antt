@@ -142,7 +142,7 @@ step_kept (Tag tag) ss room some v is h change makes keeps =
     shape_level room some v h (items_changed (in_tagged change tag)) (items_level (room - 1) (in_tagged change tag)
     (λ vs each. items_out (room - 1) (in_tagged change tag vs) (kept_tagged (IsWithin (room - 1)) change (items_keep (IsWithin (room - 1)) change keeps) vs (items_in (room - 1) vs each) tag)))
 
--- what has a step behind it may be any value
+-- what has a step after it may be any value
 suits_any : (s t : Step) (ts : List Step) → IsStep s (t ∷ ts) → (w : Value) → Suits s w
 suits_any (Field n) t ts is w = tt
 suits_any (Qualifier n) t ts is w = record { lang = λ e. absurd (not_last (is.lang_last e)); kind = λ e. absurd (not_last (is.type_last e)) }

@@ -84,7 +84,7 @@ shape_changed f v = ok_map (λ s. value s (out-Value v).quals) (f (out-Shape (ou
 abbrev pub quals_changed : (List Member → Result (List Member) Rule) → Value → Result Value Rule
 quals_changed f v = ok_map (value (out-Value v).shape) (f (out-Value v).quals)
 
--- the value with a change made behind one step
+-- the value with a change made after one step
 abbrev pub stepped : Change → Bool → Step → Value → Result Value Rule
 stepped change makes (Field name) v = shape_changed (fields_changed (in_members change makes false name)) v
 stepped change makes (Qualifier name) v = quals_changed (in_members change makes (same_name name lang_name) name) v

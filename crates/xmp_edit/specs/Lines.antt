@@ -1,5 +1,5 @@
 -- The lines of a script, as they are spelled. Words are parted by one space, and none is empty; VALUE and URI
--- are the rest of the line behind their space.
+-- are the rest of the line after their space.
 --   ns PREFIX URI | set PATH VALUE | seturi PATH URI | delete PATH | array PATH KIND | struct PATH
 --   append PATH VALUE | insert PATH N VALUE | setlang PATH TAG VALUE | qualify PATH NAME VALUE
 use Rattle.std.specs.Prelude.{ℕ, ◌+◌, ◌-◌, ◌==◌, nat_lt, Bool, true, false, ◌&&◌, not, if◌then◌else◌, List, [], ◌∷◌, length, take, drop, slice_index, map, Option, Some, None, option_map, option_and_then, codes}
@@ -21,7 +21,7 @@ use Rattle.xmp_edit.specs.declared.words.Command.TheVariants as commands
 abbrev pub is_lf : ℕ → Bool
 is_lf b = b == 10
 
--- behind each LF a line begins
+-- after each LF a line begins
 abbrev pub later_lines : List ℕ → List (List ℕ)
 later_lines [] = []
 later_lines (b ∷ bs) = if is_lf b then before_first is_lf bs ∷ later_lines bs else later_lines bs
@@ -36,7 +36,7 @@ without_cr line = if slice_index line (length line - 1) == 13 then take (length 
 abbrev pub escape_of : ℕ → Option ℕ
 escape_of c = if c == byte "\\" then Some (byte "\\") else if c == byte "n" then Some 10 else if c == byte "r" then Some 13 else if c == byte "t" then Some 9 else None
 
--- what is told by the rest of a text, behind a `\` or not
+-- what is told by the rest of a text, after a `\` or not
 abbrev pub unescaped_from : Bool → List ℕ → Option (List ℕ)
 unescaped_from false [] = Some []
 unescaped_from true [] = None
@@ -50,7 +50,7 @@ unescaped = unescaped_from false
 abbrev pub is_space : ℕ → Bool
 is_space b = b == byte " "
 
--- a word and what stands behind its space
+-- a word and what stands after its space
 abbrev pub worded : List ℕ → Option (List ℕ × List ℕ)
 worded text = if nat_lt 0 (position_or_len is_space text) && nat_lt (position_or_len is_space text) (length text)
     then Some (take (position_or_len is_space text) text, drop (position_or_len is_space text + 1) text) else None
@@ -67,7 +67,7 @@ told text = option_and_then (λ w. option_map (λ t. record { word = w.0; text =
 abbrev pub three : List ℕ → Option Three
 three text = option_and_then (λ w. option_map (λ t. record { path = w.0; word = t.word; text = t.text }) (told w.1)) (worded text)
 
--- The forms, each by what stands behind its first word.
+-- The forms, each by what stands after its first word.
 abbrev pub ns_line : List ℕ → Option Line
 ns_line rest = option_and_then (λ t. if is_name t.word && not (length t.text == 0) then Some (lines.Bind t.word t.text) else None) (told rest)
 

@@ -38,7 +38,7 @@ lines_read (text ∷ texts) line r = on_line (lines_read texts (line + 1)) line 
 abbrev pub beginning : List Hint → ReadingParts
 beginning hints = record { bindings = record { lines = []; hints = hints }; edits = [] }
 
--- the given hints, and behind them those of the lines whose namespaces are new
+-- the given hints, and after them those of the lines whose namespaces are new
 abbrev pub with_hint : List Hint → Hint → List Hint
 with_hint hints h = if has_space hints h.space then hints else hints ++ h ∷ []
 
@@ -46,7 +46,7 @@ abbrev pub finished : List Hint → Result ReadingParts (Rule × ℕ) → Result
 finished hints (Ok r) = Ok record { edits = r.edits; hints = fold with_hint hints r.bindings.lines }
 finished hints (Err fault) = Err fault
 
--- the script of a text; where that isn't UTF-8, the fault's place is the first byte behind its longest valid front
+-- the script of a text; where that isn't UTF-8, the fault's place is the first byte after its longest valid front
 abbrev pub script_of : List Hint → List ℕ → Result ScriptParts (Rule × ℕ)
 script_of hints bytes = if is_utf8 bytes then finished hints (lines_read (lines_of bytes) 1 (beginning hints)) else Err (ScriptUtf8, utf8_valid_len bytes)
 

@@ -153,7 +153,7 @@ fn qualify_line<'s>(alloc: Global, rest: &'s [u8]) -> Result<Option<Line<'s>>, M
     }
 }
 
-/// The line of a command, by what stands behind its word.
+/// The line of a command, by what stands after its word.
 fn formed<'s>(
     alloc: Global,
     command: Option<Command>,

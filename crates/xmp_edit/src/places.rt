@@ -44,7 +44,7 @@ pub fn is_end(steps: &[Step]) -> bool
     }
 }
 
-/// A value after an edit behind a step.
+/// A value after an edit after a step.
 #[cycle(edit)]
 fn stepped<'p>(
     alloc: Global,
@@ -88,7 +88,7 @@ fn stepped<'p>(
     }
 }
 
-/// Members after an edit at a name and behind it.
+/// Members after an edit at a name and after it.
 #[cycle(edit)]
 fn in_members<'p>(
     alloc: Global,
@@ -111,7 +111,7 @@ fn in_members<'p>(
     }
 }
 
-/// Members after an edit behind the member at a place.
+/// Members after an edit after the member at a place.
 #[cycle(edit)]
 fn member_at<'p>(
     alloc: Global,
@@ -153,7 +153,7 @@ fn member_made<'p>(
     }
 }
 
-/// Items after an edit at a place and behind it.
+/// Items after an edit at a place and after it.
 #[cycle(edit)]
 fn in_items<'p>(
     alloc: Global,
@@ -173,7 +173,7 @@ fn in_items<'p>(
     item_made(alloc, action, items)
 }
 
-/// Items after an edit at the first of a language and behind it.
+/// Items after an edit at the first of a language and after it.
 #[cycle(edit)]
 fn in_tagged<'p>(
     alloc: Global,
@@ -190,7 +190,7 @@ fn in_tagged<'p>(
     }
 }
 
-/// Items after an edit behind the item at a place.
+/// Items after an edit after the item at a place.
 #[cycle(edit)]
 fn item_at<'p>(
     alloc: Global,

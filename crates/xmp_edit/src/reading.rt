@@ -78,7 +78,7 @@ impl<'s> Reading<'s> {
         Ok(reading)
     }
 
-    /// The lines behind the first are read, up to one that is bad.
+    /// The lines after the first are read, up to one that is bad.
     fn later_lines_read(self, alloc: Global, text: &[u8]) -> Result<Reading<'s>, PlaceStop>
         ensures { Gives place_of result (lines_read (later_lines text.now) 2 self.entry) }
     {
@@ -149,7 +149,7 @@ fn namespaces<'h>(alloc: Global, hints: &'h [Hint]) -> Result<TextSet<'h>, Memor
     Ok(seen)
 }
 
-/// The given hints, and behind them those lines whose namespaces are new.
+/// The given hints, and after them those lines whose namespaces are new.
 pub fn with_hints(alloc: Global, hints: &Hints, lines: &[Hint]) -> Result<Hints, Memory>
     requires { All IsValidHint lines.now }
     ensures { IfOk result (λ hs. hs ≡ fold with_hint hints.now lines.now) }

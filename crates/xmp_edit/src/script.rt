@@ -54,7 +54,7 @@ impl Script {
         }
     }
 
-    /// The given hints, and behind them those of the `ns` lines whose namespaces are new.
+    /// The given hints, and after them those of the `ns` lines whose namespaces are new.
     pub fn hints(&self) -> &Hints
         ensures { result.now ≡ self.now.hints }
     {

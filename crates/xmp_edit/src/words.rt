@@ -7,7 +7,7 @@ use std::alloc::Global;
 use xmp_tree::Kind;
 use xmp_values::{Bytes, Memory, Text};
 
-/// A word, and a text behind it.
+/// A word, and a text after it.
 #[derive(Drop)]
 pub struct Told<'s> {
     pub word: Text<'s>,
@@ -37,7 +37,7 @@ pub enum Command {
     Qualify,
 }
 
-/// What a byte behind `\` stands for.
+/// What a byte after `\` stands for.
 fn escape_of(byte: u8) -> Option<u8>
     ensures { result ≡ escape_of byte }
 {
@@ -88,7 +88,7 @@ fn space_at(text: &[u8]) -> usize
     text.len()
 }
 
-/// A word, and what stands behind its space; None where the word is empty or has no space behind it.
+/// A word, and what stands after its space; None where the word is empty or has no space after it.
 pub fn worded(text: &[u8]) -> Option<(&[u8], &[u8])>
     ensures { option_map (λ w. (w.0.now, w.1.now)) result ≡ worded text.now }
 {
@@ -107,7 +107,7 @@ pub fn is_last_word(text: &[u8]) -> bool
     0 < text.len() && space_at(text) == text.len()
 }
 
-/// A word, and behind its space a text with escapes.
+/// A word, and after its space a text with escapes.
 pub fn word_told<'s>(alloc: Global, text: &'s [u8]) -> Result<Option<Told<'s>>, Memory>
     ensures { IfOk result (λ t. t ≡ told text.now) }
 {

@@ -33,11 +33,11 @@ length-packet ps t form len least =
     let many : ℕ = len - least_len ps t form in
     let text : List ℕ = written_text ps t form in
     let long = length-append (header ++ text ++ pad many) trailer in
-    let behind = length-append (header ++ text) (pad many) in
+    let after = length-append (header ++ text) (pad many) in
     let end = length-append header text in
     let front : length header ≡ 54 = refl in
     let back : length trailer ≡ 19 = refl in
-    omega (arith, long, behind, end, front, back, length-pad many)
+    omega (arith, long, after, end, front, back, length-pad many)
 
 kept_by : (over : Bool) (kept other : Kept) (f : Fault) → Ok kept ≡ (if over then Err f else Ok other) → kept ≡ other
 kept_by true kept other f e = absurd (cc e)

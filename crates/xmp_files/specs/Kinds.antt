@@ -20,7 +20,7 @@ is_tiff head = begins head (codes "II" ++ 0x2A ∷ 0x00 ∷ []) || begins head (
 abbrev pub is_big_tiff : List ℕ → Bool
 is_big_tiff head = begins head (codes "II" ++ 0x2B ∷ 0x00 ∷ []) || begins head (codes "MM" ++ 0x00 ∷ 0x2B ∷ [])
 
--- a RIFF file whose form is WebP: the form stands behind the file's size
+-- a RIFF file whose form is WebP: the form stands after the file's size
 abbrev pub is_webp : List ℕ → Bool
 is_webp head = begins head (codes "RIFF") && begins (drop 8 head) (codes "WEBP")
 
@@ -39,7 +39,7 @@ utf8_mark = 0xEF ∷ 0xBB ∷ 0xBF ∷ []
 abbrev pub without_mark : List ℕ → List ℕ
 without_mark head = if begins head utf8_mark then drop 3 head else head
 
--- behind any white space stands `<`
+-- after any white space stands `<`
 abbrev pub is_markup : List ℕ → Bool
 is_markup text = begins (drop (prefix_len is_blank text) text) (codes "<")
 

@@ -24,7 +24,7 @@ pub enum Kind {
 /// How many bytes at a file's beginning tell its kind.
 pub const HEAD_LEN: usize = 16;
 
-/// The kind of a file, by its first 16 bytes or by all of a shorter one. Bytes behind these, which
+/// The kind of a file, by its first 16 bytes or by all of a shorter one. Bytes after these, which
 /// may be given too, don't count. None where the bytes begin no kind.
 pub fn kind_of(head: &[u8]) -> Option<Kind>
     ensures { result ≡ kind_of head.now }
@@ -64,15 +64,15 @@ fn is_big_tiff(head: &[u8]) -> bool
     head.starts_with(b"II\x2b\x00") || head.starts_with(b"MM\x00\x2b")
 }
 
-/// A RIFF file whose form, behind its size, is WebP.
+/// A RIFF file whose form, after its size, is WebP.
 fn is_webp(head: &[u8]) -> bool
     ensures { result ≡ is_webp head.now }
 {
-    head.starts_with(b"RIFF") && behind(head, 8).starts_with(b"WEBP")
+    head.starts_with(b"RIFF") && after(head, 8).starts_with(b"WEBP")
 }
 
-/// What stands behind the first `count` bytes, of which there may be fewer.
-fn behind(head: &[u8], count: usize) -> &[u8]
+/// What stands after the first `count` bytes, of which there may be fewer.
+fn after(head: &[u8], count: usize) -> &[u8]
     ensures { result.now ≡ drop count head.now }
 {
     &head[count.min(head.len())..]
@@ -98,7 +98,7 @@ fn is_utf16(head: &[u8]) -> bool
     head.starts_with(&[0xfe, 0xff]) || head.starts_with(&[0xff, 0xfe])
 }
 
-/// The text behind a byte order mark, if it begins with one.
+/// The text after a byte order mark, if it begins with one.
 fn without_mark(head: &[u8]) -> &[u8]
     ensures { result.now ≡ without_mark head.now }
 {
@@ -109,7 +109,7 @@ fn without_mark(head: &[u8]) -> &[u8]
     }
 }
 
-/// Whether `<` stands behind any white space.
+/// Whether `<` stands after any white space.
 fn is_markup(text: &[u8]) -> bool
     ensures { result ≡ is_markup text.now }
 {

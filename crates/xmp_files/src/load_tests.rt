@@ -23,7 +23,7 @@ fn stop_of(alloc: Global, bytes: &[u8], failing: u64) -> Result<Option<LoadStop>
     Ok(load_failing(alloc, bytes, failing)?.err())
 }
 
-/// Why a file of this length, which begins with these bytes and is zeros behind them, isn't loaded.
+/// Why a file of this length, which begins with these bytes and is zeros after them, isn't loaded.
 fn stop_of_long(alloc: Global, front: &str, len: u64) -> Result<Option<LoadStop>, Memory> {
     let mut desk = SparseDesk::new(alloc, "a.xmp", len)?;
     desk.piece(0, front.as_bytes())?;

@@ -16,7 +16,7 @@ use xmp_values::FileStop;
 ///
 /// Asks for the length, then reads the first 16 bytes, and then the payload. Of a file over its
 /// limit no byte is read, and of one that is refused by its kind, or for the length of its
-/// payload, none behind these 16. No memory is taken before the kind is known.
+/// payload, none after these 16. No memory is taken before the kind is known.
 ///
 /// # Errors
 /// `Absent` after a miss that the desk counted, `Device` after a failure that it counted, and the

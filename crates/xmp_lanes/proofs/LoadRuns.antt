@@ -127,9 +127,9 @@ module _ (a b : List ℕ) (at run : ℕ) (a_room : at + 32 ≤ length a) (b_room
       let a_long = length-chunk at 32 a a_room in
       pair_parts ∙ common_stop (chunk at 32 a) (chunk at 32 b) (drop (at + 32) a) (drop (at + 32) b) (omega (arith, is, few, a_long)) (a_long ∙ sym (length-chunk at 32 b b_room)) ∙ sym is
 
--- nothing is common behind the end of one
-pub nothing_behind : (a b : List ℕ) (at : ℕ) → at ≡ min (length a) (length b) → same_run (drop at a) (drop at b) ≡ 0
-nothing_behind a b at end =
+-- nothing is common after the end of one
+pub nothing_after : (a b : List ℕ) (at : ℕ) → at ≡ min (length a) (length b) → same_run (drop at a) (drop at b) ≡ 0
+nothing_after a b at end =
     let bounds = common_prefix_len-le equals (drop at a) (drop at b) in
     omega (arith, bounds.0, bounds.1, length-drop at a, length-drop at b, end)
 

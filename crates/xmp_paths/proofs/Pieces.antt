@@ -3,7 +3,7 @@ use Rattle.std.proofs.Common.{◌≡◌, ◌∙◌, ◌+◌, ◌<◌, ℕ, suc, 
 use Rattle.std.specs.List.{position_or_len, before_first}
 use Rattle.xmp_paths.specs.declared.spelling.SpelledStep.{SpelledStep}
 use Rattle.xmp_paths.specs.Grammar.{spelled_step, is_mark, pieces, consed, spelled_steps}
-use Rattle.xmp_paths.proofs.Collected.{behind, behind_more}
+use Rattle.xmp_paths.proofs.Collected.{after, after_more}
 
 module _ (text : List ℕ) (at : ℕ) (within : at < length text) where
   abbrev here : ℕ
@@ -32,15 +32,15 @@ module _ (text : List ℕ) (at : ℕ) (within : at < length text) where
   marked mark = cut ∙ ap (λ b. cond b (piece ∷ pieces (drop (at + 1) text)) (pieces (drop (at + 1) text))) mark
 
   module _ (steps : List SpelledStep) where
-    pub steps_none : is_mark here ≡ true → spelled_step piece ≡ None → behind steps (spelled_steps (pieces (drop at text))) ≡ None
-    steps_none mark none = ap (λ ps. behind steps (spelled_steps ps)) (marked mark) ∙ ap (λ o. behind steps (consed o (spelled_steps (pieces (drop (at + 1) text))))) none
+    pub steps_none : is_mark here ≡ true → spelled_step piece ≡ None → after steps (spelled_steps (pieces (drop at text))) ≡ None
+    steps_none mark none = ap (λ ps. after steps (spelled_steps ps)) (marked mark) ∙ ap (λ o. after steps (consed o (spelled_steps (pieces (drop (at + 1) text))))) none
 
     pub steps_more : (s : SpelledStep) → is_mark here ≡ true → spelled_step piece ≡ Some s →
-        behind steps (spelled_steps (pieces (drop at text))) ≡ behind (steps ++ s ∷ []) (spelled_steps (pieces (drop (at + 1) text)))
+        after steps (spelled_steps (pieces (drop at text))) ≡ after (steps ++ s ∷ []) (spelled_steps (pieces (drop (at + 1) text)))
     steps_more s mark is =
-        ap (λ ps. behind steps (spelled_steps ps)) (marked mark) ∙ ap (λ o. behind steps (consed o (spelled_steps (pieces (drop (at + 1) text))))) is
-        ∙ sym (behind_more steps s (spelled_steps (pieces (drop (at + 1) text))))
+        ap (λ ps. after steps (spelled_steps ps)) (marked mark) ∙ ap (λ o. after steps (consed o (spelled_steps (pieces (drop (at + 1) text))))) is
+        ∙ sym (after_more steps s (spelled_steps (pieces (drop (at + 1) text))))
 
-    pub steps_same : is_mark here ≡ false → behind steps (spelled_steps (pieces (drop at text))) ≡ behind steps (spelled_steps (pieces (drop (at + 1) text)))
+    pub steps_same : is_mark here ≡ false → after steps (spelled_steps (pieces (drop at text))) ≡ after steps (spelled_steps (pieces (drop (at + 1) text)))
     steps_same other =
-        ap (λ ps. behind steps (spelled_steps ps)) (cut ∙ ap (λ b. cond b (piece ∷ pieces (drop (at + 1) text)) (pieces (drop (at + 1) text))) other)
+        ap (λ ps. after steps (spelled_steps ps)) (cut ∙ ap (λ b. cond b (piece ∷ pieces (drop (at + 1) text)) (pieces (drop (at + 1) text))) other)

@@ -48,7 +48,7 @@ is_lang_tag (b ∷ bs) = is_ascii_alphabetic b && list_all is_tag_byte bs && nat
 abbrev pub bracketed : List ℕ → Option (List ℕ)
 bracketed text = if slice_index text (length text - 1) == byte "]" then Some (take (length text - 1) text) else None
 
--- a step by its text behind `/`
+-- a step by its text after `/`
 abbrev pub member_step : List ℕ → Option SpelledStep
 member_step [] = None
 member_step (b ∷ bs) = if b == byte "?" then option_map Qualifier (prefixed bs) else option_map Field (prefixed (b ∷ bs))

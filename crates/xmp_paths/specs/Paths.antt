@@ -43,7 +43,7 @@ abbrev pub path_found : Bindings → Spelling → Option PathParts
 path_found b s = path_parts (name_found b s.first) (steps_found b s.steps)
 
 -- Reserved: the note belongs to the file, and the names of RDF and XML to the text. But `xml:lang` and
--- `rdf:type` are qualifiers, behind which no step goes.
+-- `rdf:type` are qualifiers, after which no step goes.
 abbrev pub is_foreign : Name → Bool
 is_foreign name = bytes_eq name.space rdf_space || bytes_eq name.space xml_space
 

@@ -8,7 +8,7 @@ use xmp_base::{FileDesk, StdSink};
 use xmp_cli::{Status, run};
 use xmp_values::{Memory, Words};
 
-/// The words behind the program's name. Arguments that aren't UTF-8 are no words.
+/// The words after the program's name. Arguments that aren't UTF-8 are no words.
 pub fn words_of(rt: &(impl Env + AllocGlobal)) -> Result<Words, Memory> {
     let mut words = Words::new(rt.alloc());
     let arguments = match env::args(rt) {

@@ -62,7 +62,7 @@ impl Patched {
     }
 }
 
-/// Whether a space stands before the new bytes up to some place, and the old ones behind it.
+/// Whether a space stands before the new bytes up to some place, and the old ones after it.
 fn is_closed(old: &[u8], new: &[u8], now: &[u8]) -> bool {
     now.first() == Some(&b' ')
         && (1..=now.len()).any(|place| {
@@ -90,7 +90,7 @@ fn patch(alloc: Global, file: &[u8], script: &str, fails: u64) -> Result<Patched
 }
 
 #[test]
-fn patch_exchanges_the_packet_behind_its_first_byte(rt: HostRuntime) -> Result<(), Fail> {
+fn patch_exchanges_the_packet_after_its_first_byte(rt: HostRuntime) -> Result<(), Fail> {
     let alloc = rt.alloc();
     let old = packet(alloc, PHOTO, 0, "w")?;
     let new = packet(alloc, TIFF, 0, "w")?;

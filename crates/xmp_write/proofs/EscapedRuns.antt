@@ -70,7 +70,7 @@ module _ (place : Escape) where
   escaped-append [] ys = refl
   escaped-append (x ∷ xs) ys = ap (λ rest. escape_byte place x ++ rest) (escaped-append xs ys) ∙ sym (append_assoc (escape_byte place x) (escaped place xs) (escaped place ys))
 
-  -- a run behind what is escaped before it, and the byte behind the run
+  -- a run after what is escaped before it, and the byte after the run
   module _ (text : List ℕ) (from : ℕ) (within : from ≤ length text) where
     abbrev run : ℕ
     run = plain_run place (drop from text)

@@ -147,7 +147,7 @@ module _ (hints : List Hint) (names : All (λ h. IsName h.prefix) hints) where
       by None (Some prefix) is fit = fit_follows given space (prefix_in hints space) prefix refl fit
       by None None is fit = number_follows given space few
 
-  -- the place of a namespace behind others
+  -- the place of a namespace after others
   new_space : (given : List Hint) (space : List ℕ) (spaces : List (List ℕ)) → AllPairs (λ a b. a ≢ b) (spaces_in given ++ space ∷ spaces) → All (λ h. h.space ≢ space) given
   new_space given space spaces apart k d within same =
       let long : length (spaces_in given) ≡ length given = length-map given (λ (h : Hint). h.space) in

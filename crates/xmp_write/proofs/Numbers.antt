@@ -30,7 +30,7 @@ module _ (hints given : List Hint) where
       (λ inside. subst (λ n. is_free hints given (numbered n) ≡ true) (sym here) free) in
       sym same ∙ ap (λ at. 1 + at) (sym place)
 
-  -- where no number up to that of all hints and given prefixes passes, it is the one behind
+  -- where no number up to that of all hints and given prefixes passes, it is the one after
   pub least_past : (n : ℕ) → length hints + length given + 1 ≤ n → AreTried n → length hints + length given + 1 ≡ free_number hints given
   least_past n past tried =
       let numbers = range_with_len 1 (length hints + length given) in
@@ -38,8 +38,8 @@ module _ (hints given : List Hint) where
       let place = position_or_len_is (λ n. is_free hints given (numbered n)) numbers (length hints + length given) 0 (omega arith)
       (λ k below. tried_at n tried k below (omega arith))
       (λ inside. absurd (omega arith)) in
-      let behind : length hints + length given + 1 ≡ 1 + (length hints + length given) = omega arith in
-      behind ∙ ap (λ at. 1 + at) (sym place)
+      let after : length hints + length given + 1 ≡ 1 + (length hints + length given) = omega arith in
+      after ∙ ap (λ at. 1 + at) (sym place)
 
   -- no number below the least is free
   pub least_tried : AreTried (free_number hints given)

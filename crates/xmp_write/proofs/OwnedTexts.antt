@@ -37,21 +37,21 @@ module _ {K : Type 0} (bytes : K → List ℕ) where
   module _ (text : List ℕ) (key : K) where
     placed : (x : K) (xs : List K) (o : Ordering) → o ≡ by_bytes key x → list_any (is_text text) (insert_key by_bytes xs key) ≡ (is_text text key || list_any (is_text text) xs)
         → list_any (is_text text) (match_ordering o (key ∷ x ∷ xs) (x ∷ xs) (x ∷ insert_key by_bytes xs key)) ≡ (is_text text key || (is_text text x || list_any (is_text text) xs))
-    placed x xs Less e behind = refl
-    placed x xs Equal e behind =
+    placed x xs Less e after = refl
+    placed x xs Equal e after =
         twice (is_text text x) (list_any (is_text text) xs)
         ∙ ap (λ found. is_eq (slice_cmp nat_cmp text found) || (is_text text x || list_any (is_text text) xs)) (sym (exact_bytes (bytes key) (bytes x) (sym e)))
-    placed x xs Greater e behind = ap (λ rest. is_text text x || rest) behind ∙ turned (is_text text x) (is_text text key) (list_any (is_text text) xs)
+    placed x xs Greater e after = ap (λ rest. is_text text x || rest) after ∙ turned (is_text text x) (is_text text key) (list_any (is_text text) xs)
 
     pub has-insert_key : (keys : List K) → list_any (is_text text) (insert_key by_bytes keys key) ≡ (is_text text key || list_any (is_text text) keys)
     has-insert_key [] = refl
     has-insert_key (x ∷ xs) = placed x xs (by_bytes key x) refl (has-insert_key xs)
 
-behind : (a b : Bool) → (a || b) ≡ (b || (a || false))
-behind true true = refl
-behind true false = refl
-behind false true = refl
-behind false false = refl
+after : (a b : Bool) → (a || b) ≡ (b || (a || false))
+after true true = refl
+after true false = refl
+after false true = refl
+after false false = refl
 
 -- a set with the prefix of one hint more
 pub given_more : (taken new : BTreeSet (Vec ℕ Global)) (list more : List Hint) (key : Vec ℕ Global) (h : Hint) → key.items ≡ h.prefix → HasGiven taken list
@@ -61,6 +61,6 @@ given_more taken new list more key h keyed has keys put text =
     ∙ has-insert_key (λ (v : Vec ℕ Global). v.items) text key taken.keys
     ∙ ap (λ here. here || owns_text taken text) (is_eq-slice_cmp text key.items ∙ ap (bytes_eq text) keyed)
     ∙ ap (λ before. bytes_eq text h.prefix || before) (has text)
-    ∙ behind (bytes_eq text h.prefix) (has_prefix list text)
+    ∙ after (bytes_eq text h.prefix) (has_prefix list text)
     ∙ sym (list_any-append (λ h. bytes_eq text h.prefix) list (h ∷ []))
     ∙ ap (λ hs. has_prefix hs text) (sym put)

@@ -27,7 +27,7 @@ at_length : (front : List Hint) (h : Hint) (rest : List Hint) → slice_get (fro
 at_length [] h rest = refl
 at_length (g ∷ front) h rest = at_length front h rest
 
--- a list with its first item put behind a front
+-- a list with its first item put after a front
 moved : (front : List Hint) (h : Hint) (rest : List Hint) → (front ++ h ∷ []) ++ rest ≡ front ++ h ∷ rest
 moved [] h rest = refl
 moved (g ∷ front) h rest = ap (λ list. g ∷ list) (moved front h rest)
@@ -39,14 +39,14 @@ module _ (space : List ℕ) where
 
   tested : (here : Bool) (front : List Hint) (h : Hint) (rest : List Hint) → prefix_in rest space ≡ prefix_at (front ++ h ∷ rest) (position_from is_space (length front + 1) rest)
       → cond here (Some h.prefix) (prefix_in rest space) ≡ prefix_at (front ++ h ∷ rest) (cond here (Some (length front)) (position_from is_space (length front + 1) rest))
-  tested true front h rest behind = sym (ap (option_map (λ h. h.prefix)) (at_length front h rest))
-  tested false front h rest behind = behind
+  tested true front h rest after = sym (ap (option_map (λ h. h.prefix)) (at_length front h rest))
+  tested false front h rest after = after
 
-  placed_behind : (front rest : List Hint) → prefix_in rest space ≡ prefix_at (front ++ rest) (position_from is_space (length front) rest)
-  placed_behind front [] = refl
-  placed_behind front (h ∷ rest) =
+  placed_after : (front rest : List Hint) → prefix_in rest space ≡ prefix_at (front ++ rest) (position_from is_space (length front) rest)
+  placed_after front [] = refl
+  placed_after front (h ∷ rest) =
       tested (is_space h) front h rest
-      (placed_behind (front ++ h ∷ []) rest ∙ ap (λ list. prefix_at list (position_from is_space (length (front ++ h ∷ [])) rest)) (moved front h rest)
+      (placed_after (front ++ h ∷ []) rest ∙ ap (λ list. prefix_at list (position_from is_space (length (front ++ h ∷ [])) rest)) (moved front h rest)
       ∙ ap (λ at. prefix_at (front ++ h ∷ rest) (position_from is_space at rest)) (length_push front h))
 
   position_from-spaces : (at : ℕ) (list : List Hint) → position_from (bytes_eq space) at (spaces_in list) ≡ position_from is_space at list
@@ -54,7 +54,7 @@ module _ (space : List ℕ) where
   position_from-spaces at (h ∷ hs) = ap (cond (bytes_eq space h.space) (Some at)) (position_from-spaces (at + 1) hs)
 
   prefix_in-place : (list : List Hint) (place : Option ℕ) → place ≡ position_from is_space 0 list → prefix_in list space ≡ prefix_at list place
-  prefix_in-place list place is = placed_behind [] list ∙ ap (prefix_at list) (sym is)
+  prefix_in-place list place is = placed_after [] list ∙ ap (prefix_at list) (sym is)
 
   pub written_prefix-place : (list : List Hint) (place : Option ℕ) → fixed_prefix space ≡ None → place ≡ position_from (bytes_eq space) 0 (spaces_in list) → written_prefix list space ≡ unwrap_or (prefix_at list place) []
   written_prefix-place list place free is =

@@ -1,4 +1,4 @@
--- Pieces that are put into a slice behind one another.
+-- Pieces that are put into a slice after one another.
 use Rattle.std.proofs.Common.{◌≡◌, ℕ, zero, suc, ◌+◌, ◌-◌, ◌^◌, ◌<◌, ◌≤◌, List, [], ◌∷◌, ◌++◌, length, take, drop, get_or, min, refl, sym, ap, subst, ◌∙◌, ⊎_elim, length-append, arith}
 use Rattle.std.specs.Prelude.{codes}
 use borrow.Rule.Slice.PartMut.{put_mid}
@@ -24,7 +24,7 @@ put_cut zero (suc n) (x ∷ xs) [] fits = refl
 put_cut zero (suc n) (x ∷ xs) (y ∷ ys) fits = ap (λ rest. y ∷ rest) (put_cut zero n xs ys (omega arith))
 put_cut (suc i) n (x ∷ xs) ys fits = ap (λ rest. x ∷ rest) (put_cut i n xs ys (omega arith))
 
--- one piece behind another
+-- one piece after another
 put_then : (i j : ℕ) (xs a b : List ℕ) → j ≡ i + length a → put_chunk j (put_chunk i xs a) b ≡ put_chunk i xs (a ++ b)
 put_then i j [] a b at = refl
 put_then zero j (x ∷ xs) [] b at = let same : j ≡ 0 = omega arith in ap (λ k. put_chunk k (x ∷ xs) b) same
@@ -50,20 +50,20 @@ put_nothing zero (x ∷ xs) = refl
 put_nothing (suc i) (x ∷ xs) = ap (λ rest. x ∷ rest) (put_nothing i xs)
 
 pub puts_none : (old : List ℕ) (at : ℕ) → length old < 2 ^ 64 → at < 2 ^ 64 → Puts old old at at []
-puts_none old at held low = record { behind_is = omega arith; written = sym (put_nothing at old); held = held }
+puts_none old at held low = record { after_is = omega arith; written = sym (put_nothing at old); held = held }
 
--- one piece put behind another
+-- one piece put after another
 infixl 20 ◌▸◌
 pub ◌▸◌ : {a b c : List ℕ} {i j k : ℕ} {xs ys : List ℕ} → Puts a b i j xs → Puts b c j k ys → Puts a c i k (xs ++ ys)
 ◌▸◌ {a} {b} {c} {i} {j} {k} {xs} {ys} first second = record {
-  behind_is = omega (arith, length-append xs ys, first.behind_is, second.behind_is);
+  after_is = omega (arith, length-append xs ys, first.after_is, second.after_is);
   written = ⊎_elim
       (λ low.
-      let at : j ≡ i + length xs = omega (arith, first.behind_is) in
+      let at : j ≡ i + length xs = omega (arith, first.after_is) in
       second.written ∙ ap (λ list. put_chunk j list ys) first.written ∙ put_then i j a xs ys at)
       (λ high.
       let held = length-put_chunk i a xs in
-      let past : length (put_chunk i a xs) ≤ j = omega (arith, first.behind_is, first.held, held) in
+      let past : length (put_chunk i a xs) ≤ j = omega (arith, first.after_is, first.held, held) in
       second.written ∙ ap (λ list. put_chunk j list ys) first.written ∙ put_past j (put_chunk i a xs) ys past
       ∙ sym (put_past (i + length xs) (put_chunk i a xs) ys (omega (arith, first.held, held))) ∙ put_then i (i + length xs) a xs ys refl)
       (cases_lt (i + length xs) (2 ^ 64));
@@ -73,7 +73,7 @@ pub ◌▸◌ : {a b c : List ℕ} {i j k : ℕ} {xs ys : List ℕ} → Puts a b
 pub puts_as : {a b : List ℕ} {i j : ℕ} {xs : List ℕ} (ys : List ℕ) → Puts a b i j xs → xs ≡ ys → Puts a b i j ys
 puts_as {a} {b} {i} {j} ys put same = subst (λ (text : List ℕ). Puts a b i j text) same put
 
--- an element's end behind what stands before it
+-- an element's end after what stands before it
 pub ended : {a b c : List ℕ} {i j k : ℕ} {xs : List ℕ} (name : List ℕ) → Puts a b i j xs → Puts b c j k (codes "</" ++ name ++ codes ">") → Puts a c i k (xs ++ codes "</" ++ name ++ codes ">")
 ended {a} {b} {c} {i} {j} {k} {xs} name first second =
     puts_as (xs ++ codes "</" ++ name ++ codes ">") (first ▸ second)
@@ -89,7 +89,7 @@ more_put f xs i x within here first second =
 
 -- what a text that is put from the front measures, and what a slice of its length holds
 pub measured : {a b : List ℕ} {j : ℕ} {text : List ℕ} → Puts a b 0 j text → j ≡ min (length text) (2 ^ 64 - 1)
-measured {a} {b} {j} {text} put = omega (arith, put.behind_is)
+measured {a} {b} {j} {text} put = omega (arith, put.after_is)
 
 pub filled : {a b : List ℕ} {j : ℕ} {text : List ℕ} → Puts a b 0 j text → length a ≡ length text → b ≡ text
 filled {a} {b} {j} {text} put room = put.written ∙ put_chunk_whole a text room

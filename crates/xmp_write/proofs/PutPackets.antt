@@ -32,19 +32,19 @@ module _ (front end old one two three new : List ℕ) (at last : ℕ) (room : le
   abbrev many : ℕ
   many = length old - length end - length front
 
-  behind : at ≡ length front
-  behind = omega (arith, first.behind_is, first.held, room)
+  after : at ≡ length front
+  after = omega (arith, first.after_is, first.held, room)
 
   one_long : length one ≡ length old
   one_long = ap length first.written ∙ length-put_chunk 0 old front
 
   fronted : take at one ≡ front
-  fronted = ap (take at) first.written ∙ take_more_put_chunk 0 old front at (omega (arith, behind)) (omega (arith, behind, room))
+  fronted = ap (take at) first.written ∙ take_more_put_chunk 0 old front at (omega (arith, after)) (omega (arith, after, room))
 
   rest_long : length (take (length old - length end - at) (drop at one)) ≡ many
   rest_long =
       let rest = length-drop at one in
-      length-take-le (length old - length end - at) (drop at one) (omega (arith, rest, one_long, behind, room)) ∙ omega (arith, behind)
+      length-take-le (length old - length end - at) (drop at one) (omega (arith, rest, one_long, after, room)) ∙ omega (arith, after)
 
   filled_with : three ≡ pad many
   filled_with = filling ∙ ap pad rest_long
@@ -59,12 +59,12 @@ module _ (front end old one two three new : List ℕ) (at last : ℕ) (room : le
       let outer = length-drop (length old - length end - at) (drop at one) in
       let rest = length-drop at one in
       let begun = ap length fronted in
-      ap length middle ∙ omega (arith, parts, inner, outer, rest, begun, one_long, three_long, behind, room)
+      ap length middle ∙ omega (arith, parts, inner, outer, rest, begun, one_long, three_long, after, room)
 
   head_is : take (length old - length end) two ≡ front ++ pad many
   head_is =
       ap (take (length old - length end)) middle
-      ∙ take-put_mid at (length old - length end - at) one three (length old - length end) (omega (arith, three_long, behind, room)) (omega (arith, one_long, behind, room))
+      ∙ take-put_mid at (length old - length end - at) one three (length old - length end) (omega (arith, three_long, after, room)) (omega (arith, one_long, after, room))
       ∙ ap (λ xs. xs ++ three) fronted ∙ ap (λ xs. front ++ xs) filled_with
 
   pub put_packet : new ≡ front ++ pad many ++ end

@@ -23,7 +23,7 @@ module _ (ps : List Hint) (name : List ℕ) (v : Value) (quals others : List Mem
   plain_put none put =
       puts_as (value_text ps name v) put (ap (λ lang. shape_text ps name lang (out-Value v).shape) tag_is ∙ plain_value ps name v others rest_is none)
 
-  -- with others, behind `rdf:value`
+  -- with others, after `rdf:value`
   pub qualified_put : {a b c d e f g : List ℕ} {h i j k l m n : ℕ} (held : List ℕ) → 0 < length others
       → held ≡ codes "rdf:value" → Puts a b h i (codes "<" ++ name) → Puts b c i j (lang_text lang ++ parse_text) → Puts c d j k (codes ">")
       → Puts d e k l (shape_text ps held None (out-Value v).shape) → Puts e f l m (flat_map (member_text ps) others)

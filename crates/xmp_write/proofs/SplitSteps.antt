@@ -24,7 +24,7 @@ use Rattle.xmp_write.proofs.TextParts.{lines_text-append, declared_text-append}
 use Rattle.xmp_write.proofs.FrontTexts.{later_spaces, given_len}
 use Rattle.xmp_write.proofs.FrontLengths.{whole, front_len_is, front_grows}
 
--- three lengths, each behind the one before
+-- three lengths, each after the one before
 pub three_lengths : (a b c x y z : ℕ) → x ≡ min (164 + a) (2 ^ 64 - 1) → y ≡ min (x + b) (2 ^ 64 - 1) → z ≡ min (y + c) (2 ^ 64 - 1) → z ≡ min (164 + a + b + c) (2 ^ 64 - 1)
 three_lengths a b c x y z one two three = omega arith
 

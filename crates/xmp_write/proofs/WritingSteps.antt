@@ -1,4 +1,4 @@
--- Lines that are put behind one another.
+-- Lines that are put after one another.
 use Rattle.std.proofs.Common.{◌≡◌, ℕ, ◌+◌, ◌<◌, List, [], ◌∷◌, ◌++◌, length, take, get_or, sym, ap, ◌∙◌, arith}
 use Rattle.std.specs.Prelude.{Result, OnOk}
 use Rattle.std.specs.List.{flat_map}

@@ -34,7 +34,7 @@ shape_word (layer.Uri text) = codes "uri " ++ shown text
 shape_word (layer.Struct fields) = codes "struct " ++ decimal (length fields)
 shape_word (layer.Array kind items) = kind_word kind ++ decimal (length items)
 
--- the path of a field or a property, of a qualifier, and of an item, behind that of its holder
+-- the path of a field or a property, of a qualifier, and of an item, after that of its holder
 abbrev pub field_path : List ℕ → List ℕ
 field_path path = path ++ codes "/"
 
@@ -45,7 +45,7 @@ abbrev pub item_path : List ℕ → ℕ → List ℕ
 item_path path n = path ++ codes "[" ++ decimal n ++ codes "]"
 
 -- The lines of what stands at a path: its own, then those of its qualifiers, then those of its fields or items,
--- which are counted from 1. A member's path is its name behind what stands before it.
+-- which are counted from 1. A member's path is its name after what stands before it.
 abbrev mutual
   pub value_lines : List Hint → List ℕ → Value → List ℕ
   value_lines ps path (Value' shape n quals) =

@@ -12,9 +12,9 @@ use Rattle.xmp_tree.specs.Wf.{name_of, value_of}
 use Rattle.xmp_write.specs.declared.placing.Spelled.{Spelled}
 use Rattle.xmp_write.specs.Text.{is_tag, text_byte, quoted_byte}
 
--- A text put at a place: as much of it as the slice has room for, and the place behind it, or the greatest u64.
-pub record Puts (old new : List ℕ) (at behind : ℕ) (text : List ℕ) : Type 0 where
-  pub behind_is : behind ≡ min (at + length text) (2 ^ 64 - 1)
+-- A text put at a place: as much of it as the slice has room for, and the place after it, or the greatest u64.
+pub record Puts (old new : List ℕ) (at after : ℕ) (text : List ℕ) : Type 0 where
+  pub after_is : after ≡ min (at + length text) (2 ^ 64 - 1)
   pub written : new ≡ put_chunk at old text
   pub held : length old < 2 ^ 64
 

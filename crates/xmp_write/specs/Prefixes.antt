@@ -11,7 +11,7 @@ use Rattle.xmp_tree.specs.Parts.{Parts}
 use Rattle.xmp_write.specs.declared.forms.Form.{Form}
 use Rattle.xmp_write.specs.Written.{written_spaces}
 
--- A namespace behind those that are used before it, unless it is one of them or is fixed.
+-- A namespace after those that are used before it, unless it is one of them or is fixed.
 abbrev pub with_use : List (List ℕ) → List ℕ → List (List ℕ)
 with_use spaces space = if is_fixed space || list_any (bytes_eq space) spaces then spaces else spaces ++ space ∷ []
 
@@ -32,7 +32,7 @@ abbrev pub is_free : List Hint → List Hint → List ℕ → Bool
 is_free hints given prefix = not (has_prefix hints prefix) && not (has_prefix given prefix)
 
 -- The least number from 1 whose prefix is free. Each hint and each given prefix takes one number at most, so
--- that the number behind as many is free.
+-- that the number after as many is free.
 abbrev pub free_number : List Hint → List Hint → ℕ
 free_number hints given = 1 + position_or_len (λ n. is_free hints given (numbered n)) (range_with_len 1 (length hints + length given))
 

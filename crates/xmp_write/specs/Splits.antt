@@ -16,7 +16,7 @@ use Rattle.xmp_write.specs.Prefixes.{prefixes, with_use, with_prefix}
 use Rattle.xmp_write.specs.Written.{note_members, member_spaces}
 use Rattle.xmp_write.specs.Text.{attribute_text, declared_text, lines_text, written_text}
 
--- the note and the first k properties; the properties behind them, without a note
+-- the note and the first k properties; the properties after them, without a note
 abbrev pub front_form : List ℕ → ℕ → Form
 front_form digits k = record { first = 0; count = k; note = Some digits }
 

@@ -64,7 +64,7 @@ abbrev pub has_others : {m : _} → Row_of-Member m → Bool
 has_others end_of-Member = false
 has_others (more_of-Member (Member' name value) rest) = if is_tag name then is_more rest else true
 
--- an attribute behind a space
+-- an attribute after a space
 abbrev pub attribute_text : List ℕ → List ℕ → List ℕ
 attribute_text name value = codes " " ++ name ++ codes "=\"" ++ quoted_escaped value ++ codes "\""
 
@@ -87,7 +87,7 @@ kind_name Bag = codes "rdf:Bag"
 kind_name Seq = codes "rdf:Seq"
 kind_name Alt = codes "rdf:Alt"
 
--- A value as an element of a name, as the name is spelled. Qualifiers besides `xml:lang` stand behind `rdf:value`, which holds
+-- A value as an element of a name, as the name is spelled. Qualifiers besides `xml:lang` stand after `rdf:value`, which holds
 -- the value without any.
 abbrev mutual
   pub value_text : List Hint → List ℕ → Value → List ℕ

@@ -9,7 +9,7 @@ use Rattle.xmp_tree.specs.Wf.{note_name}
 use Rattle.xmp_write.specs.declared.forms.Form.{Form}
 
 -- The namespaces of the names within a written value, one for each name. Fields and items come before the
--- qualifiers, which are elements behind `rdf:value`. `xml:lang` is an attribute of the value's own element, but its
+-- qualifiers, which are elements after `rdf:value`. `xml:lang` is an attribute of the value's own element, but its
 -- namespace is never declared, so its place here is all one; so it is with the names that RDF's forms add.
 abbrev mutual
   pub value_spaces : Value → List (List ℕ)

@@ -6,7 +6,7 @@ ghost use Rattle.xmp_tree.specs.declared.nested.Shape.{out-Shape};
 ghost use Rattle.xmp_write.specs.Writing.{Adds, items_from};
 ghost use Rattle.xmp_write.specs.Prefixes.{spelled};
 ghost use Rattle.xmp_paths.specs.Places.{child};
-ghost use Rattle.xmp_write.specs.ValueLines.{step_path, lines_behind, lines_at};
+ghost use Rattle.xmp_write.specs.ValueLines.{step_path, lines_after, lines_at};
 ghost use Rattle.xmp_write.specs.Lines.{shown, shown_byte, shape_word, kind_word, value_lines, shape_lines, member_lines, item_path, lines};
 
 use crate::prefixes::Prefixes;
@@ -272,20 +272,20 @@ impl Writer {
 }
 
 /// Puts the lines of what steps lead to from a value at the path.
-fn push_behind(
+fn push_after(
     writer: &mut Writer,
     prefixes: &Prefixes<'_>,
     steps: &[Step],
     value: &Value<'_>,
 ) -> Result<(), Memory>
-    ensures { OnOk result (writer.new.text.items ≡ writer.old.text.items ++ lines_behind prefixes.now writer.old.path.items steps.now value.now) }
+    ensures { OnOk result (writer.new.text.items ≡ writer.old.text.items ++ lines_after prefixes.now writer.old.path.items steps.now value.now) }
 {
     match steps {
         [] => push_value(writer, prefixes, value),
         [step, rest @ ..] => match child(step, value) {
             Some(held) => {
                 writer.step(prefixes, step, value)?;
-                push_behind(writer, prefixes, rest, held)
+                push_after(writer, prefixes, rest, held)
             }
             None => Ok(()),
         },
@@ -309,7 +309,7 @@ pub fn value_lines(
     };
     if let Some(value) = value_named(tree.props.as_slice(), at.name()) {
         writer.enter(prefixes, at.name())?;
-        push_behind(&mut writer, prefixes, at.steps(), value)?;
+        push_after(&mut writer, prefixes, at.steps(), value)?;
     }
     Ok(Bytes::from_vec(writer.text))
 }

@@ -69,18 +69,18 @@ fn reference(byte: u8) -> &'static [u8]
 pub fn put_escaped(to: &mut [u8], at: u64, text: &[u8], place: Escape) -> u64
     ensures { Puts to.old to.new at result (escaped place text.now) }
 {
-    let mut behind = at;
+    let mut after = at;
     let mut from = 0;
     while from < text.len() {
         let end = from + plain_run(&text[from..], place);
-        behind = put(to, behind, &text[from..end]);
+        after = put(to, after, &text[from..end]);
         from = end;
         if end < text.len() {
-            behind = put(to, behind, reference(text[end]));
+            after = put(to, after, reference(text[end]));
             from = end + 1;
         }
     }
-    behind
+    after
 }
 
 /// Puts an attribute after a space.

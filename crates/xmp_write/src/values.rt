@@ -212,11 +212,11 @@ fn put_array(
 fn put_members(to: &mut [u8], at: u64, prefixes: &Prefixes<'_>, members: &[Member<'_>]) -> u64
     ensures { Puts to.old to.new at result (flat_map (member_text prefixes.now) members.now) }
 {
-    let mut behind = at;
+    let mut after = at;
     for member in members {
-        behind = put_member(to, behind, prefixes, member);
+        after = put_member(to, after, prefixes, member);
     }
-    behind
+    after
 }
 
 #[cycle(values)]
@@ -232,9 +232,9 @@ pub fn put_member(to: &mut [u8], at: u64, prefixes: &Prefixes<'_>, member: &Memb
 fn put_items(to: &mut [u8], at: u64, prefixes: &Prefixes<'_>, items: &[Value<'_>]) -> u64
     ensures { Puts to.old to.new at result (flat_map (value_text prefixes.now (codes "rdf:li")) items.now) }
 {
-    let mut behind = at;
+    let mut after = at;
     for item in items {
-        behind = put_value(to, behind, prefixes, rdf(b"li"), item);
+        after = put_value(to, after, prefixes, rdf(b"li"), item);
     }
-    behind
+    after
 }

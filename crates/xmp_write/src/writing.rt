@@ -17,27 +17,27 @@ use xmp_values::{Digits, Hint};
 pub fn put_declarations(to: &mut [u8], at: u64, hints: &[Hint]) -> u64
     ensures { Puts to.old to.new at result (declared_text hints.now) }
 {
-    let mut behind = at;
+    let mut after = at;
     for hint in hints {
         let name = Spelled {
             prefix: b"xmlns",
             local: hint.prefix.as_slice(),
         };
-        behind = put_attribute(to, behind, name, hint.space.as_slice());
+        after = put_attribute(to, after, name, hint.space.as_slice());
     }
-    behind
+    after
 }
 
 /// Puts properties, each on a line.
 fn put_lines(to: &mut [u8], at: u64, prefixes: &Prefixes<'_>, props: &[Member<'_>]) -> u64
     ensures { Puts to.old to.new at result (lines_text prefixes.now props.now) }
 {
-    let mut behind = at;
+    let mut after = at;
     for member in props {
-        behind = put_member(to, behind, prefixes, member);
-        behind = put(to, behind, b"\n");
+        after = put_member(to, after, prefixes, member);
+        after = put(to, after, b"\n");
     }
-    behind
+    after
 }
 
 /// Puts a note of these digits as a property.

@@ -82,8 +82,8 @@ module _ {M : Type 1} {𝓤 : Ura M} (𝓛 : Logic 𝓤) (at_mem : Memory → SP
         let on : at o s (length front) ≡ m + o = (let a = at_mul o s (length front) in omega arith) in
         let mid : List ℕ = take k (drop_list m xs) in
         let back : List ℕ = drop_list e xs in
-        let behind : drop_list k (drop_list m xs) ≡ back = drop-drop k m xs ∙ ap (λ (j : ℕ). drop_list j xs) (omega arith) in
-        let cut : xs ≡ front ++ (mid ++ back) = sym (take-append-drop m xs) ∙ ap (λ (l : List ℕ). front ++ l) (sym (take-append-drop k (drop_list m xs)) ∙ ap (λ (l : List ℕ). mid ++ l) behind) in
+        let after : drop_list k (drop_list m xs) ≡ back = drop-drop k m xs ∙ ap (λ (j : ℕ). drop_list j xs) (omega arith) in
+        let cut : xs ≡ front ++ (mid ++ back) = sym (take-append-drop m xs) ∙ ap (λ (l : List ℕ). front ++ l) (sym (take-append-drop k (drop_list m xs)) ∙ ap (λ (l : List ℕ). mid ++ l) after) in
         let long : length mid ≡ k = length-take-le k (drop_list m xs) (omega arith) in
         let roomy : Room u8 (length mid) = subst (λ (j : ℕ). Room u8 j) (sym long) (fk, omega arith) in
         let p : ℕ = m + o in

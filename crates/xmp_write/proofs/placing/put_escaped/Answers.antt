@@ -20,14 +20,14 @@ loop-from-preserved-then-end-text c =
     let run = c.plain_run.result in
     let kept = c.loop-from.invariant in
     let stops = stopped_at c.args.place text from run kept.within c.plain_run.ensures.run c.if-end-text.true in
-    let put = run_put c.args.place text from run kept.within c.plain_run.ensures.run kept.put c.put-behind.ensures in record {
+    let put = run_put c.args.place text from run kept.within c.plain_run.ensures.run kept.put c.put-after.ensures in record {
       within = omega arith;
-      put = byte_put c.args.place text (from + run) c.reference.result.now c.if-end-text.true stops c.reference.ensures put c.put-behind-then-end-text.ensures;
+      put = byte_put c.args.place text (from + run) c.reference.result.now c.if-end-text.true stops c.reference.ensures put c.put-after-then-end-text.ensures;
     }
 
 pub loop-from-preserved : goal.loop-from-preserved
 loop-from-preserved c =
     let kept = c.loop-from.invariant in record {
       within = omega (arith, c.plain_run.ensures.within, kept.within);
-      put = run_put c.args.place c.args.text.now c.loop-from.from c.plain_run.result kept.within c.plain_run.ensures.run kept.put c.put-behind.ensures;
+      put = run_put c.args.place c.args.text.now c.loop-from.from c.plain_run.result kept.within c.plain_run.ensures.run kept.put c.put-after.ensures;
     }

@@ -24,7 +24,7 @@ put_items-loop-item-preserved t c =
     let ps = c.args.prefixes.now in
     let item = c.item-item.result in
     more_put (value_text ps (codes "rdf:li")) c.args.items.now c.loop-item.item-index item c.loop-item-test.true c.item-item.is c.loop-item.invariant
-    (puts_as (value_text ps (codes "rdf:li") item) c.put_value-behind.ensures (ap (λ name. value_text ps name item) c.rdf.ensures))
+    (puts_as (value_text ps (codes "rdf:li") item) c.put_value-after.ensures (ap (λ name. value_text ps name item) c.rdf.ensures))
 
 pub put_members-loop-member-init : goal.put_members-loop-member-init
 put_members-loop-member-init t c = puts_none c.args.to.now c.args.at (omega arith) (omega arith)
@@ -32,7 +32,7 @@ put_members-loop-member-init t c = puts_none c.args.to.now c.args.at (omega arit
 pub put_members-loop-member-preserved : goal.put_members-loop-member-preserved
 put_members-loop-member-preserved t c =
     more_put (member_text c.args.prefixes.now) c.args.members.now c.loop-member.member-index c.member-item.result c.loop-member-test.true c.member-item.is c.loop-member.invariant
-    c.put_member-behind.ensures
+    c.put_member-after.ensures
 
 pub put_shape-returns-in-Struct : goal.put_shape-returns-in-Struct
 put_shape-returns-in-Struct t c =

@@ -9,4 +9,4 @@ loop-member-init c = puts_none c.args.to.now c.args.at (omega arith) (omega arit
 pub loop-member-preserved : goal.loop-member-preserved
 loop-member-preserved c =
     line_put c.args.prefixes.now c.args.props.now c.loop-member.member-index c.member-item.result c.loop-member-test.true c.member-item.is c.loop-member.invariant
-    c.put_member-behind.ensures c.put-behind.ensures
+    c.put_member-after.ensures c.put-after.ensures

@@ -4,4 +4,4 @@ use Rattle.xmp_write.specs.Placing.{Puts}
 use Rattle.xmp_write.proofs.writing.put_lines.Given as goal
 
 abbrev pub invariant-loop-member : goal.invariant-loop-member
-invariant-loop-member l = Puts l.fn.to l.to l.at l.behind (lines_text l.prefixes (take l.member-index l.props))
+invariant-loop-member l = Puts l.fn.to l.to l.at l.after (lines_text l.prefixes (take l.member-index l.props))
