@@ -10,10 +10,10 @@ use Rattle.xmp_values.specs.declared.text.Name.{Name}
 use Rattle.xml_grammar.specs.declared.elements.Attribute.{Attribute}
 use Rattle.xml_grammar.specs.declared.elements.Child.{Child}
 use Rattle.xml_grammar.specs.declared.elements.Element.{Element}
-use Rattle.rdf_forms.specs.Words.{is_rdf, is_own}
+use Rattle.rdf_forms.specs.Words.{is_rdf, is_member_name}
 use Rattle.rdf_forms.specs.Parts.{name_of, element_at, elements_in}
 use Rattle.rdf_forms.specs.MemberRules.{has_again, has_common, attribute_names}
-use Rattle.rdf_forms.specs.Entering.{element_names, own_names, Holds, clashes, entered, IsEntered, Enters}
+use Rattle.rdf_forms.specs.Entering.{element_names, property_attribute_names, Holds, clashes, entered, IsEntered, Enters}
 use Rattle.rdf_forms.proofs.Clashes.{clashes-held, clashes-append}
 use Rattle.rdf_forms.proofs.Entered.{holds_itself}
 
@@ -79,7 +79,7 @@ abbrev pub child_names : Bool → Child → List Name
 child_names without c = entered without (element_names (c ∷ []))
 
 abbrev pub own_name : Bool → Attribute → List Name
-own_name without a = entered without (own_names (a ∷ []))
+own_name without a = entered without (property_attribute_names (a ∷ []))
 
 nothing_entered : (without : Bool) → [] ≡ entered without []
 nothing_entered true = refl
@@ -98,10 +98,10 @@ names-children without (c ∷ cs) =
     ∙ ap (entered without) (sym (map-append name_of one (elements_in cs)))
     ∙ ap (λ es. entered without (map name_of es)) (sym (elements_split (element_at c) (elements_in cs)))
 
-pub names-attributes : (without : Bool) (xs : List Attribute) → flat_map (own_name without) xs ≡ entered without (own_names xs)
+pub names-attributes : (without : Bool) (xs : List Attribute) → flat_map (own_name without) xs ≡ entered without (property_attribute_names xs)
 names-attributes without [] = nothing_entered without
 names-attributes without (a ∷ xs) =
-    let own = λ (b : Attribute). is_own b.name in
+    let own = λ (b : Attribute). is_member_name b.name in
     let name = λ (b : Attribute). b.name in
     ap (λ ns. own_name without a ++ ns) (names-attributes without xs)
     ∙ sym (entered-append without (attribute_names (filter own (a ∷ []))) (attribute_names (filter own xs)))

@@ -3,7 +3,7 @@ use Rattle.std.proofs.Common.{◌≡◌, ◌<◌, ◌≤◌, ◌&&◌, ◌||◌,
 use Rattle.std.specs.Prelude.{Some, None, slice_get, codes}
 use Rattle.xml_grammar.specs.declared.elements.Element.{Element}
 use Rattle.xml_grammar.specs.declared.elements.Attribute.{Attribute}
-use Rattle.rdf_forms.specs.Words.{is_rdf, is_own}
+use Rattle.rdf_forms.specs.Words.{is_rdf, is_member_name}
 use Rattle.rdf_forms.specs.FormRules.{is_form_attribute}
 use Rattle.rdf_forms.specs.FormViews.{is_by_attributes}
 use Rattle.rdf_forms.specs.Forms.{Form, ByMembers, ByContainer, ByNode, ByAttributes, ByText, NoForm, childless_form, child_form, form_by}
@@ -29,7 +29,7 @@ form_by-one e c (d ∷ f ∷ fs) is few = absurd (omega (arith, few))
 
 pub ruleset forms = (form_by-none, form_by-typed, form_by-many, form_by-one)
 
-pub is_form_attribute_by : (f : Form) (a : Attribute) → is_form_attribute f a ≡ (is_by_attributes f && (is_rdf (codes "value") a.name || is_rdf (codes "resource") a.name || is_own a.name))
+pub is_form_attribute_by : (f : Form) (a : Attribute) → is_form_attribute f a ≡ (is_by_attributes f && (is_rdf (codes "value") a.name || is_rdf (codes "resource") a.name || is_member_name a.name))
 is_form_attribute_by ByAttributes a = refl
 is_form_attribute_by ByMembers a = refl
 is_form_attribute_by (ByContainer c) a = refl

@@ -14,9 +14,9 @@ use Rattle.rdf_forms.specs.declared.roles.Role.TheVariants as roles
 use Rattle.rdf_forms.specs.declared.roles.Holder.TheVariants as holders
 use Rattle.rdf_forms.specs.Words.{is_rdf, is_container}
 use Rattle.xml_grammar.specs.declared.elements.Attribute.{Attribute}
-use Rattle.rdf_forms.specs.Parts.{name_of, place_of, elements_of, own_attributes, has_blank_text}
+use Rattle.rdf_forms.specs.Parts.{name_of, place_of, elements_of, property_attributes, has_blank_text}
 use Rattle.rdf_forms.specs.Forms.{Form, ByMembers, ByContainer, ByNode, ByAttributes, ByText, NoForm, parse_type, is_resource, has_other_attribute, form_by, form_of}
-use Rattle.rdf_forms.specs.Values.{lang_of, type_of, by_members, node_members, kind_of, attribute_member, element_member, formed, value_within}
+use Rattle.rdf_forms.specs.Values.{lang_qualifiers, type_of, by_members, node_members, kind_of, attribute_member, element_member, formed, value_within}
 use Rattle.rdf_forms.specs.Visits.{visit, members_holder, node_holder, member_depth, form_visits, property_visits, top_visits, rdf_visits, child_visits, visits}
 use Rattle.rdf_forms.specs.NameRules.{first_about}
 use Rattle.rdf_forms.specs.Rules.{first_fault}
@@ -96,11 +96,11 @@ members_in levels n m same es h =
 
 formed_same : (levels n m : ℕ) → SameValues levels n m → (e : Element) → All (HasLevels levels) (elements_of e) → (form : Form) → IsIn (HasLevels levels) form →
     formed (value_within n) e form ≡ formed (value_within m) e form
-formed_same levels n m same e h ByMembers k = ap (by_members (lang_of e) []) (members_in levels n m same (elements_of e) h)
+formed_same levels n m same e h ByMembers k = ap (by_members (lang_qualifiers e) []) (members_in levels n m same (elements_of e) h)
 formed_same levels n m same e h (ByContainer c) k =
-    ap (λ (vs : List Value). value (Array (kind_of (name_of c)) vs) (lang_of e)) (values_in levels n m same (elements_of c) (inside levels c k))
+    ap (λ (vs : List Value). value (Array (kind_of (name_of c)) vs) (lang_qualifiers e)) (values_in levels n m same (elements_of c) (inside levels c k))
 formed_same levels n m same e h (ByNode c) k =
-    ap (λ (ms : List Member). by_members (lang_of e) (type_of (name_of c)) (node_members c ++ ms)) (members_in levels n m same (elements_of c) (inside levels c k))
+    ap (λ (ms : List Member). by_members (lang_qualifiers e) (type_of (name_of c)) (node_members c ++ ms)) (members_in levels n m same (elements_of c) (inside levels c k))
 formed_same levels n m same e h ByAttributes k = refl
 formed_same levels n m same e h ByText k = refl
 formed_same levels n m same e h NoForm k = refl
@@ -190,7 +190,7 @@ module _ (levels n m : ℕ) (a : levels ≤ n) (b : levels ≤ m) where
       let elements = map_same (placed_element n) (placed_element m) (elements_of t)
       (All-weaker (HasLevels levels) (λ c. placed_element n c ≡ placed_element m c)
       (λ c k. ap (placed_as c) (same_value levels n m a b c k)) (elements_of t) (inside levels t h)) in
-      ap (λ (ps : List Placed). map (λ (a : Attribute). (place_of t, attribute_member a)) (own_attributes t) ++ ps) elements
+      ap (λ (ps : List Placed). map (λ (a : Attribute). (place_of t, attribute_member a)) (property_attributes t) ++ ps) elements
 
   tops_within : (root : Element) → HasLevels levels root → All (HasLevels levels) (tops_of root)
   tops_within root h = by (is_rdf (codes "RDF") (name_of root))

@@ -3,7 +3,7 @@ use Rattle.std.specs.Prelude.{◌≡◌, ◌↔◌, Bool, true, false, ◌||◌,
 use Rattle.xmp_values.specs.declared.text.Name.{Name}
 use Rattle.xml_grammar.specs.declared.elements.Attribute.{Attribute}
 use Rattle.xml_grammar.specs.declared.elements.Child.{Child}
-use Rattle.rdf_forms.specs.Words.{is_own}
+use Rattle.rdf_forms.specs.Words.{is_member_name}
 use Rattle.rdf_forms.specs.Parts.{name_of, elements_in}
 use Rattle.rdf_forms.specs.MemberRules.{has_again, has_common, attribute_names, other_names}
 
@@ -19,8 +19,8 @@ clashes ns those = has_common ns those || has_again ns
 abbrev pub element_names : List Child → List Name
 element_names cs = map name_of (elements_in cs)
 
-abbrev pub own_names : List Attribute → List Name
-own_names attributes = attribute_names (filter (λ (a : Attribute). is_own a.name) attributes)
+abbrev pub property_attribute_names : List Attribute → List Name
+property_attribute_names attributes = attribute_names (filter (λ (a : Attribute). is_member_name a.name) attributes)
 
 -- names, or those of them that aren't `rdf:value`
 abbrev pub entered : Bool → List Name → List Name

@@ -6,7 +6,7 @@ use Rattle.xml_grammar.specs.declared.elements.Attribute.{Attribute}
 use Rattle.xml_grammar.specs.declared.elements.Element.{Element}
 use Rattle.rdf_forms.specs.declared.roles.Role.{Role}
 use Rattle.rdf_forms.specs.declared.roles.Role.TheVariants as roles
-use Rattle.rdf_forms.specs.Words.{is_rdf, in_rdf, is_lang, is_bare_about, is_own}
+use Rattle.rdf_forms.specs.Words.{is_rdf, in_rdf, is_lang, is_bare_about, is_member_name}
 use Rattle.rdf_forms.specs.Parts.{name_of, elements_of, has_blank_text, has_attribute}
 use Rattle.rdf_forms.specs.Forms.{Form, ByMembers, ByContainer, ByNode, ByAttributes, form_of, parse_type, is_resource}
 use Rattle.rdf_forms.specs.Visits.{is_typed}
@@ -31,18 +31,18 @@ has_value_again e = is_value_element e && has_attribute (is_rdf (codes "value"))
 
 -- an element `rdf:value` with `rdf:resource` and a property attribute
 unfoldable pub has_qualified_uri : Element → Bool
-has_qualified_uri e = is_value_element e && has_attribute (is_rdf (codes "resource")) e && has_attribute is_own e
+has_qualified_uri e = is_value_element e && has_attribute (is_rdf (codes "resource")) e && has_attribute is_member_name e
 
 -- an attribute because of which TwiceValue holds at its element
 unfoldable pub is_twice_value_attribute : Element → Attribute → Bool
 is_twice_value_attribute e a =
     (has_two_values e && (is_rdf (codes "value") a.name || is_rdf (codes "resource") a.name))
     || (has_value_again e && is_rdf (codes "value") a.name)
-    || (has_qualified_uri e && (is_rdf (codes "resource") a.name || is_own a.name))
+    || (has_qualified_uri e && (is_rdf (codes "resource") a.name || is_member_name a.name))
 
 -- is the attribute, besides `xml:lang` and `rdf:parseType`, allowed in this form
 abbrev pub is_form_attribute : Form → Attribute → Bool
-is_form_attribute ByAttributes a = is_rdf (codes "value") a.name || is_rdf (codes "resource") a.name || is_own a.name
+is_form_attribute ByAttributes a = is_rdf (codes "value") a.name || is_rdf (codes "resource") a.name || is_member_name a.name
 is_form_attribute form a = false
 
 unfoldable pub is_property_attribute : Element → Attribute → Bool
@@ -52,11 +52,11 @@ is_property_attribute e a = is_lang a.name || is_rdf (codes "parseType") a.name 
 unfoldable pub is_role_attribute : Role → Element → Attribute → Bool
 is_role_attribute roles.Root e a = true
 is_role_attribute roles.Rdf e a = false
-is_role_attribute roles.Top e a = is_rdf (codes "about") a.name || is_bare_about a.name || is_own a.name
+is_role_attribute roles.Top e a = is_rdf (codes "about") a.name || is_bare_about a.name || is_member_name a.name
 is_role_attribute (roles.Property holder) e a = is_property_attribute e a
 is_role_attribute roles.Item e a = is_property_attribute e a
 is_role_attribute roles.Container e a = false
-is_role_attribute roles.Node e a = is_rdf (codes "value") a.name || is_own a.name
+is_role_attribute roles.Node e a = is_rdf (codes "value") a.name || is_member_name a.name
 
 unfoldable pub is_refused : Role → Element → Attribute → Bool
 is_refused role e a = not (is_role_attribute role e a) && not (is_bare role a) && not (is_xml role a) && not (is_twice_value_attribute e a)
@@ -79,6 +79,7 @@ is_form_of_elements (ByContainer c) = true
 is_form_of_elements (ByNode n) = true
 is_form_of_elements form = false
 
+-- an element in this role holds its value in child elements, so that no text may stand beside them (7.4)
 abbrev pub has_elements_alone : Role → Element → Bool
 has_elements_alone (roles.Property holder) e = is_form_of_elements (form_of e)
 has_elements_alone roles.Item e = is_form_of_elements (form_of e)

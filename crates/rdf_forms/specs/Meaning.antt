@@ -13,7 +13,7 @@ use Rattle.xml_grammar.specs.declared.elements.Attribute.{Attribute}
 use Rattle.xml_grammar.specs.declared.elements.Element.{Element}
 use Rattle.xmp_tree.specs.Wf.{note_name}
 use Rattle.rdf_forms.specs.Words.{same_name, is_rdf}
-use Rattle.rdf_forms.specs.Parts.{name_of, place_of, elements_of, own_attributes}
+use Rattle.rdf_forms.specs.Parts.{name_of, place_of, elements_of, property_attributes}
 use Rattle.rdf_forms.specs.Values.{attribute_member, element_member, value_within}
 use Rattle.rdf_forms.specs.NameRules.{first_about}
 
@@ -31,7 +31,7 @@ tops_of root = flat_map elements_of (rdf_of root)
 -- a top's property attributes, then its child elements
 abbrev pub placed_in : ℕ → Element → List Placed
 placed_in levels t =
-    map (λ (a : Attribute). (place_of t, attribute_member a)) (own_attributes t)
+    map (λ (a : Attribute). (place_of t, attribute_member a)) (property_attributes t)
     ++ map (λ c. (place_of c, element_member (value_within levels) c)) (elements_of t)
 
 abbrev pub is_note : Placed → Bool

@@ -8,8 +8,8 @@ use Rattle.xml_grammar.specs.declared.elements.Attribute.{Attribute}
 use Rattle.xml_grammar.specs.declared.elements.Element.{Element}
 use Rattle.rdf_forms.specs.declared.roles.Role.{Role}
 use Rattle.rdf_forms.specs.declared.roles.Role.TheVariants as roles
-use Rattle.rdf_forms.specs.Words.{same_name, is_rdf, is_lang, is_own}
-use Rattle.rdf_forms.specs.Parts.{name_of, elements_of, elements_named, has_attribute, has_element, own_attributes}
+use Rattle.rdf_forms.specs.Words.{same_name, is_rdf, is_lang, is_member_name}
+use Rattle.rdf_forms.specs.Parts.{name_of, elements_of, elements_named, has_attribute, has_element, property_attributes}
 use Rattle.rdf_forms.specs.Forms.{Form, ByMembers, ByNode, form_of}
 use Rattle.rdf_forms.specs.Visits.{has_value_member, is_typed}
 use Rattle.rdf_forms.specs.FormRules.{has_two_values, is_value_element, has_value_again, has_qualified_uri}
@@ -57,7 +57,7 @@ attribute_names attributes = map (λ (a : Attribute). a.name) attributes
 
 -- the names of a top's or a node's members: its property attributes, then its child elements
 unfoldable pub member_names : Element → List Name
-member_names e = attribute_names (own_attributes e) ++ map name_of (elements_of e)
+member_names e = attribute_names (property_attributes e) ++ map name_of (elements_of e)
 
 -- without `rdf:value`, of which TwiceValue speaks
 abbrev pub other_names : List Name → List Name
@@ -85,12 +85,12 @@ abbrev pub most_depth : ℕ
 most_depth = 24
 
 abbrev pub too_deep : ℕ → Element → Bool
-too_deep depth e = nat_lt most_depth depth || (depth == most_depth && (has_attribute is_lang e || has_attribute is_own e))
+too_deep depth e = nat_lt most_depth depth || (depth == most_depth && (has_attribute is_lang e || has_attribute is_member_name e))
 
 unfoldable pub tree_deep : Role → ℕ → Element → Bool
 tree_deep (roles.Property holder) depth e = too_deep depth e
 tree_deep roles.Item depth e = too_deep depth e
-tree_deep roles.Node depth e = depth == most_depth && (has_attribute is_own e || is_typed e)
+tree_deep roles.Node depth e = depth == most_depth && (has_attribute is_member_name e || is_typed e)
 tree_deep role depth e = false
 
 -- the least of these rules that an element breaks in its role, after tops whose members have these names

@@ -7,7 +7,7 @@ use Rattle.xml_grammar.specs.declared.elements.Attribute.{Attribute}
 use Rattle.xml_grammar.specs.declared.elements.Element.{Element, out-Element}
 use Rattle.xml_grammar.specs.declared.elements.Child.{Child, Child-F, out-Child}
 use Rattle.xml_grammar.specs.declared.elements.Child.TheOpen as layer
-use Rattle.rdf_forms.specs.Words.{is_own}
+use Rattle.rdf_forms.specs.Words.{is_member_name}
 
 abbrev pub name_of : Element → Name
 name_of e = (out-Element e).name
@@ -62,8 +62,8 @@ abbrev pub has_attribute : (Name → Bool) → Element → Bool
 has_attribute is_this e = list_any (λ (a : Attribute). is_this a.name) (attributes_of e)
 
 -- the property attributes, in their order
-abbrev pub own_attributes : Element → List Attribute
-own_attributes e = filter (λ (a : Attribute). is_own a.name) (attributes_of e)
+abbrev pub property_attributes : Element → List Attribute
+property_attributes e = filter (λ (a : Attribute). is_member_name a.name) (attributes_of e)
 
 abbrev pub has_element : (Name → Bool) → Element → Bool
 has_element is_this e = list_any (λ c. is_this (name_of c)) (elements_of e)

@@ -13,8 +13,8 @@ use Rattle.xmp_tree.specs.Parts.{value, member}
 use Rattle.xmp_tree.specs.Wf.{value_of}
 use Rattle.xmp_tree.specs.Wf as tree
 use Rattle.xmp_tree.specs.Wf.{lang_name, type_name}
-use Rattle.rdf_forms.specs.Words.{is_rdf, is_own, is_lang}
-use Rattle.rdf_forms.specs.Parts.{name_of, attributes_of, elements_of, own_text, own_attributes, attribute_value}
+use Rattle.rdf_forms.specs.Words.{is_rdf, is_member_name, is_lang}
+use Rattle.rdf_forms.specs.Parts.{name_of, attributes_of, elements_of, own_text, property_attributes, attribute_value}
 use Rattle.rdf_forms.specs.Forms.{Form, ByMembers, ByContainer, ByNode, ByAttributes, ByText, NoForm, form_of}
 
 -- a text without qualifiers
@@ -33,8 +33,8 @@ listed None = []
 listed (Some m) = m ∷ []
 
 -- the qualifier that `xml:lang` gives
-unfoldable pub lang_of : Element → List Member
-lang_of e = listed (option_map lang_member (attribute_value is_lang e))
+unfoldable pub lang_qualifiers : Element → List Member
+lang_qualifiers e = listed (option_map lang_member (attribute_value is_lang e))
 
 -- the qualifier that a node with a type of its own gives (typed nodes; RDF/XML Syntax, 2.13)
 unfoldable pub type_of : Name → List Member
@@ -59,7 +59,7 @@ by_members lang types ms = composed lang types ms (find is_value_member ms)
 
 -- a name of an attribute of a node that is a member
 abbrev pub is_node_member : Attribute → Bool
-is_node_member a = is_own a.name || is_rdf (codes "value") a.name
+is_node_member a = is_member_name a.name || is_rdf (codes "value") a.name
 
 -- the attributes of a node that are members
 unfoldable pub node_members : Element → List Member
@@ -76,7 +76,7 @@ attributed lang ms None None = value (Struct ms) lang
 
 unfoldable pub by_attributes : Element → Value
 by_attributes e =
-    attributed (lang_of e) (map attribute_member (own_attributes e)) (attribute_value (is_rdf (codes "value")) e)
+    attributed (lang_qualifiers e) (map attribute_member (property_attributes e)) (attribute_value (is_rdf (codes "value")) e)
     (attribute_value (is_rdf (codes "resource")) e)
 
 -- an element as a member, by a reading of its value
@@ -85,11 +85,11 @@ element_member read c = member (name_of c) (read c)
 
 -- the value of an element in a form, by a reading of the values of the elements inside it
 abbrev pub formed : (Element → Value) → Element → Form → Value
-formed read e ByMembers = by_members (lang_of e) [] (map (element_member read) (elements_of e))
-formed read e (ByContainer c) = value (Array (kind_of (name_of c)) (map read (elements_of c))) (lang_of e)
-formed read e (ByNode n) = by_members (lang_of e) (type_of (name_of n)) (node_members n ++ map (element_member read) (elements_of n))
+formed read e ByMembers = by_members (lang_qualifiers e) [] (map (element_member read) (elements_of e))
+formed read e (ByContainer c) = value (Array (kind_of (name_of c)) (map read (elements_of c))) (lang_qualifiers e)
+formed read e (ByNode n) = by_members (lang_qualifiers e) (type_of (name_of n)) (node_members n ++ map (element_member read) (elements_of n))
 formed read e ByAttributes = by_attributes e
-formed read e ByText = value (Simple (own_text e)) (lang_of e)
+formed read e ByText = value (Simple (own_text e)) (lang_qualifiers e)
 formed read e NoForm = plain []
 
 -- The value of an element that has fewer levels of elements inside it than `levels`. A document has at most 100.

@@ -10,6 +10,9 @@ use Rattle.rdf_forms.specs.Words.{is_rdf}
 use Rattle.rdf_forms.specs.Parts.{name_of, elements_of, has_attribute, has_element}
 use Rattle.rdf_forms.specs.Forms.{Form, ByMembers, ByContainer, ByNode, ByAttributes, ByText, NoForm, form_of}
 
+-- A role is the part that an element plays, fixed by the elements around it. A top is a child of `rdf:RDF`; it holds properties.
+-- The holder of a property is that top, or the value whose field or qualifier the property gives.
+
 -- An element with its role. The depth is that of the property or item that it is, or that holds it; a top has the tops before it.
 pub record Visit : Type 0 where
   pub role : Role

@@ -36,5 +36,5 @@ unfoldable pub is_bare_about : Name → Bool
 is_bare_about name = in_none name && bytes_eq name.local (codes "about")
 
 -- a name of a property attribute, which has a namespace other than RDF's and XML's
-unfoldable pub is_own : Name → Bool
-is_own name = not (in_none name) && not (in_rdf name) && not (in_xml name)
+unfoldable pub is_member_name : Name → Bool
+is_member_name name = not (in_none name) && not (in_rdf name) && not (in_xml name)

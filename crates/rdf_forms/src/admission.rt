@@ -10,7 +10,7 @@ use crate::forms::Form;
 use crate::name_rules::{is_bare, is_xml};
 use crate::parts::{has_own_attribute, has_rdf_attribute};
 use crate::roles::Role;
-use crate::words::{is_bare_about, is_lang, is_own, is_rdf};
+use crate::words::{is_bare_about, is_lang, is_member_name, is_rdf};
 use xml_grammar::{Attribute, Element};
 
 /// Whether the element has `rdf:value` and `rdf:resource` as attributes.
@@ -85,7 +85,7 @@ impl<'e, 'p> Admission<'e, 'p> {
         let is_resource = is_rdf(b"resource".as_slice(), name);
         (self.two_values && (is_value || is_resource))
             || (self.value_again && is_value)
-            || (self.qualified_uri && (is_resource || is_own(name)))
+            || (self.qualified_uri && (is_resource || is_member_name(name)))
     }
 
     /// Whether the attribute may stand on a property or item of its form.
@@ -99,7 +99,7 @@ impl<'e, 'p> Admission<'e, 'p> {
             || (self.by_attributes
                 && (is_rdf(b"value".as_slice(), name)
                     || is_rdf(b"resource".as_slice(), name)
-                    || is_own(name)))
+                    || is_member_name(name)))
     }
 
     #[tactic(auto, unfolding(crate::specs::FormRules::is_role_attribute))]
@@ -111,10 +111,10 @@ impl<'e, 'p> Admission<'e, 'p> {
             Role::Root => true,
             Role::Rdf | Role::Container => false,
             Role::Top => {
-                is_rdf(b"about".as_slice(), name) || is_bare_about(name) || is_own(name)
+                is_rdf(b"about".as_slice(), name) || is_bare_about(name) || is_member_name(name)
             }
             Role::Property(_) | Role::Item => self.admits_on_property(attribute),
-            Role::Node => is_rdf(b"value".as_slice(), name) || is_own(name),
+            Role::Node => is_rdf(b"value".as_slice(), name) || is_member_name(name),
         }
     }
 

@@ -27,4 +27,4 @@ pub use parts::{first_element, lang_value, rdf_value};
 pub use roles::{Holder, Role};
 pub use rules::{broken, broken_top};
 pub use visits::{members_holder, node_holder};
-pub use words::{is_own, is_rdf};
+pub use words::{is_member_name, is_rdf};

@@ -1,12 +1,12 @@
 //! Names of members, entered in a set, which tells whether one of them stands again.
 ghost use Rattle.std.specs.Prelude.{◌≡◌, [], ◌∷◌, ◌++◌, ◌&&◌, not, map, IfOk, OnOk, codes};
 ghost use Rattle.rdf_forms.specs.Words.{is_rdf};
-ghost use Rattle.rdf_forms.specs.Parts.{name_of, elements_of, own_attributes};
+ghost use Rattle.rdf_forms.specs.Parts.{name_of, elements_of, property_attributes};
 ghost use Rattle.rdf_forms.specs.MemberRules.{attribute_names, member_names};
-ghost use Rattle.rdf_forms.specs.Entering.{Holds, clashes, element_names, own_names, entered, Enters};
+ghost use Rattle.rdf_forms.specs.Entering.{Holds, clashes, element_names, property_attribute_names, entered, Enters};
 
 use crate::parts::as_element;
-use crate::words::{is_own, is_rdf};
+use crate::words::{is_member_name, is_rdf};
 use xml_grammar::{Attribute, Child, Element};
 use xmp_values::{Memory, Name, NameSet};
 
@@ -53,10 +53,10 @@ fn enter_attribute<'e>(
     attribute: &'e Attribute<'_>,
     without_value: bool,
 ) -> Result<bool, Memory>
-    ensures apart { IfOk result (λ apart. apart ≡ not (clashes (entered without_value (own_names (attribute.now ∷ []))) seen.old)) }
-    ensures holds { OnOk result (Holds seen.new (seen.old ++ entered without_value (own_names (attribute.now ∷ [])))) }
+    ensures apart { IfOk result (λ apart. apart ≡ not (clashes (entered without_value (property_attribute_names (attribute.now ∷ []))) seen.old)) }
+    ensures holds { OnOk result (Holds seen.new (seen.old ++ entered without_value (property_attribute_names (attribute.now ∷ [])))) }
 {
-    if is_own(&attribute.name) {
+    if is_member_name(&attribute.name) {
         enter_name(seen, &attribute.name, without_value)
     } else {
         Ok(true)
@@ -85,7 +85,7 @@ fn enter_attributes<'e>(
     element: &'e Element<'_>,
     without_value: bool,
 ) -> Result<bool, Memory>
-    ensures { IfOk result (Enters seen.old (entered without_value (attribute_names (own_attributes element.now))) seen.new) }
+    ensures { IfOk result (Enters seen.old (entered without_value (attribute_names (property_attributes element.now))) seen.new) }
 {
     for attribute in element.attributes.as_slice() {
         if !enter_attribute(seen, attribute, without_value)? {

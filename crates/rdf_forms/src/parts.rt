@@ -3,11 +3,11 @@ ghost use Rattle.std.specs.Prelude.{◌≡◌, length, slice_get, is_some, find}
 ghost use Rattle.std.specs.List.{list_all};
 ghost use Rattle.std.specs.Option.{option_copied};
 ghost use Rattle.xmp_values.specs.Characters as characters;
-ghost use Rattle.rdf_forms.specs.Words.{is_rdf, is_lang, is_bare_about, is_own};
+ghost use Rattle.rdf_forms.specs.Words.{is_rdf, is_lang, is_bare_about, is_member_name};
 ghost use Rattle.rdf_forms.specs.Parts.{name_of, element_at, passes, text_at, elements_of, elements_named, has_blank_text, attribute_value, has_attribute, has_element};
 ghost use Rattle.rdf_forms.specs.Forms.{has_other_attribute};
 
-use crate::words::{is_bare_about, is_lang, is_own, is_rdf};
+use crate::words::{is_bare_about, is_lang, is_member_name, is_rdf};
 use xml_grammar::{Child, Element};
 use xmp_values::{Text, is_blank_byte};
 
@@ -82,10 +82,10 @@ pub fn has_bare_about(element: &Element<'_>) -> bool
 
 /// Whether it has a property attribute.
 pub fn has_own_attribute(element: &Element<'_>) -> bool
-    ensures { result ≡ has_attribute is_own element.now }
+    ensures { result ≡ has_attribute is_member_name element.now }
 {
     let attributes = element.attributes.as_slice();
-    attributes.iter().any(|a| is_own(&a.name))
+    attributes.iter().any(|a| is_member_name(&a.name))
 }
 
 fn is_blank_text(text: &[u8]) -> bool

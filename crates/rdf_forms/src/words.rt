@@ -1,6 +1,6 @@
 //! The names that RDF/XML gives a meaning. ISO 16684-1, 7.3 and 7.4.
 ghost use Rattle.std.specs.Prelude.{◌≡◌};
-ghost use Rattle.rdf_forms.specs.Words.{is_rdf, is_meta, is_container, in_rdf, in_xml, in_none, is_lang, is_bare_about, is_own};
+ghost use Rattle.rdf_forms.specs.Words.{is_rdf, is_meta, is_container, in_rdf, in_xml, in_none, is_lang, is_bare_about, is_member_name};
 
 use xmp_values::{Name, is_rdf_namespace, is_xml_namespace};
 
@@ -74,9 +74,9 @@ pub fn is_bare_about(name: &Name<'_>) -> bool
 
 /// Whether the name is that of a property attribute, which has a namespace other than RDF's and
 /// XML's.
-#[tactic(auto, unfolding(crate::specs::Words::is_own))]
-pub fn is_own(name: &Name<'_>) -> bool
-    ensures { result ≡ is_own name.now }
+#[tactic(auto, unfolding(crate::specs::Words::is_member_name))]
+pub fn is_member_name(name: &Name<'_>) -> bool
+    ensures { result ≡ is_member_name name.now }
 {
     !in_none(name) && !in_rdf(name) && !in_xml(name)
 }

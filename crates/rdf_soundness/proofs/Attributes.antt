@@ -17,9 +17,9 @@ use Rattle.xmp_tree.specs.declared.nested.Shape.{Simple, Uri, Struct}
 use Rattle.xmp_tree.specs.Wf.{name_of, NamesDiffer, IsOwnSpace, IsWfMember, member_depth, AreWellFormed, IsQualifier, lang_name}
 use Rattle.xmp_tree.proofs.Made.{name-member, formed_member, depth-member, formed_simple, depth-simple, other_qualifier}
 use Rattle.xmp_tree.proofs.WfLemmas.{within_struct}
-use Rattle.rdf_forms.specs.Words.{is_rdf, is_lang, is_own}
-use Rattle.rdf_forms.specs.Parts.{attributes_of, own_attributes, attribute_value, has_attribute}
-use Rattle.rdf_forms.specs.Values.{plain, attribute_member, lang_member, listed, lang_of, attributed, by_attributes}
+use Rattle.rdf_forms.specs.Words.{is_rdf, is_lang, is_member_name}
+use Rattle.rdf_forms.specs.Parts.{attributes_of, property_attributes, attribute_value, has_attribute}
+use Rattle.rdf_forms.specs.Values.{plain, attribute_member, lang_member, listed, lang_qualifiers, attributed, by_attributes}
 use Rattle.rdf_soundness.proofs.Words.{IsOutside, own_outside, own_space, sound_named}
 use Rattle.rdf_soundness.proofs.Lists.{Found, found, none_pass, filter_none}
 use Rattle.rdf_soundness.proofs.Qualifiers.{IsFit, fit_value, quals-value, IsNoLang, IsTag, tagged, tagged_alone, AreTaglessQualifiers}
@@ -63,15 +63,15 @@ no_value is_this e sound h = by (valued is_this e sound)
 
 -- ---- `xml:lang`
 
-pub lang_none : (e : Element) → IsSound e → has_attribute is_lang e ≡ false → lang_of e ≡ []
-unfolding lang_of
+pub lang_none : (e : Element) → IsSound e → has_attribute is_lang e ≡ false → lang_qualifiers e ≡ []
+unfolding lang_qualifiers
 lang_none e sound h = ap (λ o. listed (option_map lang_member o)) (no_value is_lang e sound h)
 
-pub lang_tag : (room : ℕ) (e : Element) → IsSound e → (has_attribute is_lang e ≡ true → 1 ≤ room) → IsTag room (lang_of e)
-unfolding lang_of
+pub lang_tag : (room : ℕ) (e : Element) → IsSound e → (has_attribute is_lang e ≡ true → 1 ≤ room) → IsTag room (lang_qualifiers e)
+unfolding lang_qualifiers
 lang_tag room e sound some = by (valued is_lang e sound)
   where
-    by : Valued is_lang e → IsTag room (lang_of e)
+    by : Valued is_lang e → IsTag room (lang_qualifiers e)
     by (inl (none, lacks)) = inl (ap (λ o. listed (option_map lang_member o)) none)
     by (inr (text, is, has, chars)) = inr (text, ap (λ o. listed (option_map lang_member o)) is, chars, some has)
 
@@ -88,18 +88,18 @@ formed_attribute a sound = formed_member a.name (plain a.value) (sound_named a.n
 pub depth-attribute : (a : Attribute) → member_depth (attribute_member a) ≤ 1
 depth-attribute a = omega (arith, depth-member a.name (plain a.value), depth-simple a.value)
 
-pub own_attribute : (room : ℕ) (e : Element) → IsSound e → (has_attribute is_own e ≡ true → 1 ≤ room)
-    → All (λ (a : Attribute). is_own a.name ≡ true → IsOwnAttribute room a) (attributes_of e)
+pub own_attribute : (room : ℕ) (e : Element) → IsSound e → (has_attribute is_member_name e ≡ true → 1 ≤ room)
+    → All (λ (a : Attribute). is_member_name a.name ≡ true → IsOwnAttribute room a) (attributes_of e)
 own_attribute room e sound some k d lt is = record {
   outside = own_outside (get_or (attributes_of e) k d).name is;
   sound = sound.attributed.each k d lt;
-  some = some (list_any_at (Passes is_own) (attributes_of e) k d lt is);
+  some = some (list_any_at (Passes is_member_name) (attributes_of e) k d lt is);
 }
 
-each_own : (room : ℕ) (e : Element) → IsSound e → (has_attribute is_own e ≡ true → 1 ≤ room) → All (IsOwnAttribute room) (own_attributes e)
+each_own : (room : ℕ) (e : Element) → IsSound e → (has_attribute is_member_name e ≡ true → 1 ≤ room) → All (IsOwnAttribute room) (property_attributes e)
 each_own room e sound some k d lt =
-    All-filter (Passes is_own) (λ (a : Attribute). is_own a.name ≡ true → IsOwnAttribute room a) (attributes_of e) (own_attribute room e sound some) k d lt
-    (filter_passes (Passes is_own) (attributes_of e) k d lt)
+    All-filter (Passes is_member_name) (λ (a : Attribute). is_member_name a.name ≡ true → IsOwnAttribute room a) (attributes_of e) (own_attribute room e sound some) k d lt
+    (filter_passes (Passes is_member_name) (attributes_of e) k d lt)
 
 -- members whose names are those of attributes differ
 pub attributes_differ : (xs : List Attribute) → AllPairs (λ (a b : Attribute). a.name ≢ b.name) xs → NamesDiffer (map attribute_member xs)
@@ -113,23 +113,23 @@ attributes_differ xs apart i j d lt within same =
     apart i j e lt (omega (arith, count))
     (sym (name-member x.name (plain x.value)) ∙ sym (ap name_of first) ∙ same ∙ ap name_of second ∙ name-member y.name (plain y.value))
 
-pub own_formed : (room : ℕ) (e : Element) → IsSound e → (has_attribute is_own e ≡ true → 1 ≤ room) → AreWellFormed room (map attribute_member (own_attributes e))
+pub own_formed : (room : ℕ) (e : Element) → IsSound e → (has_attribute is_member_name e ≡ true → 1 ≤ room) → AreWellFormed room (map attribute_member (property_attributes e))
 own_formed room e sound some =
     let own = each_own room e sound some in
     record {
       within = record {
-        each = All-map IsWfMember attribute_member (own_attributes e)
-            (All-weaker (IsOwnAttribute room) (λ a. IsWfMember (attribute_member a)) (λ a h. formed_attribute a h.sound) (own_attributes e) own);
-        shallow = All-map (λ m. member_depth m ≤ room) attribute_member (own_attributes e)
-            (All-weaker (IsOwnAttribute room) (λ a. member_depth (attribute_member a) ≤ room) (λ a h. omega (arith, depth-attribute a, h.some)) (own_attributes e) own);
+        each = All-map IsWfMember attribute_member (property_attributes e)
+            (All-weaker (IsOwnAttribute room) (λ a. IsWfMember (attribute_member a)) (λ a h. formed_attribute a h.sound) (property_attributes e) own);
+        shallow = All-map (λ m. member_depth m ≤ room) attribute_member (property_attributes e)
+            (All-weaker (IsOwnAttribute room) (λ a. member_depth (attribute_member a) ≤ room) (λ a h. omega (arith, depth-attribute a, h.some)) (property_attributes e) own);
       };
       fields = record {
-        apart = attributes_differ (own_attributes e)
-            (AllPairs-filter (λ (a b : Attribute). a.name ≢ b.name) (Passes is_own) (attributes_of e) sound.attributed.apart);
-        own = All-map (λ m. IsOwnSpace (name_of m).space) attribute_member (own_attributes e)
+        apart = attributes_differ (property_attributes e)
+            (AllPairs-filter (λ (a b : Attribute). a.name ≢ b.name) (Passes is_member_name) (attributes_of e) sound.attributed.apart);
+        own = All-map (λ m. IsOwnSpace (name_of m).space) attribute_member (property_attributes e)
             (All-weaker (IsOwnAttribute room) (λ a. IsOwnSpace (name_of (attribute_member a)).space)
             (λ a h. subst (λ (n : Name). IsOwnSpace n.space) (sym (name-member a.name (plain a.value))) (own_space a.name h.sound.named h.outside))
-            (own_attributes e) own);
+            (property_attributes e) own);
       };
     }
 
@@ -167,16 +167,16 @@ attributed_fit room lang ms None None tag h t u =
     let shape = (within_struct ms room).1 h in
     fit_value room (Struct ms) lang shape.0 shape.1 (tagged_alone room lang tag)
 
-pub attributes_fit : (room : ℕ) (e : Element) → IsSound e → (has_attribute is_lang e ≡ true → 1 ≤ room) → (has_attribute is_own e ≡ true → 1 ≤ room)
+pub attributes_fit : (room : ℕ) (e : Element) → IsSound e → (has_attribute is_lang e ≡ true → 1 ≤ room) → (has_attribute is_member_name e ≡ true → 1 ≤ room)
     → IsFit room (by_attributes e)
 unfolding by_attributes
 attributes_fit room e sound lang own =
-    attributed_fit room (lang_of e) (map attribute_member (own_attributes e)) (attribute_value (is_rdf (codes "value")) e)
+    attributed_fit room (lang_qualifiers e) (map attribute_member (property_attributes e)) (attribute_value (is_rdf (codes "value")) e)
     (attribute_value (is_rdf (codes "resource")) e) (lang_tag room e sound lang) (own_formed room e sound own)
     (text_of (is_rdf (codes "value")) e sound) (text_of (is_rdf (codes "resource")) e sound)
 
-none_own : (e : Element) → has_attribute is_own e ≡ false → own_attributes e ≡ []
-none_own e h = filter_none (Passes is_own) (attributes_of e) (none_pass (Passes is_own) (attributes_of e) h)
+none_own : (e : Element) → has_attribute is_member_name e ≡ false → property_attributes e ≡ []
+none_own e h = filter_none (Passes is_member_name) (attributes_of e) (none_pass (Passes is_member_name) (attributes_of e) h)
 
 bare_by : (lang : List Member) (xs : List Attribute) (uri : Option (List ℕ)) → (uri ≡ None) ⊎ (xs ≡ []) → (out-Value (attributed lang (map attribute_member xs) None uri)).quals ≡ lang
 bare_by lang xs None h = quals-value (Struct (map attribute_member xs)) lang
@@ -186,10 +186,10 @@ bare_by lang xs (Some uri) (inr none) =
 
 -- without `rdf:value`, and without `rdf:resource` or property attributes, its one qualifier is `xml:lang`
 pub attributes_bare : (e : Element) → IsSound e → has_attribute (is_rdf (codes "value")) e ≡ false
-    → (has_attribute (is_rdf (codes "resource")) e ≡ false) ⊎ (has_attribute is_own e ≡ false) → (out-Value (by_attributes e)).quals ≡ lang_of e
+    → (has_attribute (is_rdf (codes "resource")) e ≡ false) ⊎ (has_attribute is_member_name e ≡ false) → (out-Value (by_attributes e)).quals ≡ lang_qualifiers e
 unfolding by_attributes
 attributes_bare e sound none one =
-    ap (λ o. (out-Value (attributed (lang_of e) (map attribute_member (own_attributes e)) o (attribute_value (is_rdf (codes "resource")) e))).quals)
+    ap (λ o. (out-Value (attributed (lang_qualifiers e) (map attribute_member (property_attributes e)) o (attribute_value (is_rdf (codes "resource")) e))).quals)
     (no_value (is_rdf (codes "value")) e sound none)
-    ∙ bare_by (lang_of e) (own_attributes e) (attribute_value (is_rdf (codes "resource")) e)
+    ∙ bare_by (lang_qualifiers e) (property_attributes e) (attribute_value (is_rdf (codes "resource")) e)
     (⊎_elim (λ no_uri. inl (no_value (is_rdf (codes "resource")) e sound no_uri)) (λ no_own. inr (none_own e no_own)) one)

@@ -15,7 +15,7 @@ use Rattle.rdf_forms.specs.Visits.{visit, member_depth, member_visits, item_visi
 use Rattle.rdf_forms.specs.Forms.{form_of}
 use Rattle.rdf_forms.specs.FormRules.{is_property_or_item, is_value_element}
 use Rattle.rdf_forms.specs.MemberRules.{has_lang_value}
-use Rattle.rdf_forms.specs.Values.{lang_of, element_member, value_within}
+use Rattle.rdf_forms.specs.Values.{lang_qualifiers, element_member, value_within}
 use Rattle.rdf_soundness.specs.Formed.{Enough, Formed}
 use Rattle.rdf_soundness.proofs.Unbroken.{IsUnbroken, IsFaultless, faultless_cons, faultless_each}
 use Rattle.rdf_soundness.proofs.Elements.{sound_elements}
@@ -97,13 +97,13 @@ module _ (levels : ℕ) (law : FormedAt levels) (depth : ℕ) (e : Element) (rea
   pub children_are_members : (with_value : Bool) (x : Element) → IsSound e → IsSound x
       → (is_value_element e && has_element (is_rdf (codes "value")) x) ≡ false → (has_attribute is_lang e && has_lang_value x) ≡ false
       → IsFaultless (member_visits (property_visits levels) (holders.Value with_value) depth (elements_of x))
-      → All (IsMember (24 - depth) with_value (lang_of e)) (element_members (value_within levels) x)
+      → All (IsMember (24 - depth) with_value (lang_qualifiers e)) (element_members (value_within levels) x)
   children_are_members with_value x sound_e sound held once h =
-      All-map (IsMember (24 - depth) with_value (lang_of e)) (element_member (value_within levels)) (elements_of x) (λ k d lt.
+      All-map (IsMember (24 - depth) with_value (lang_qualifiers e)) (element_member (value_within levels)) (elements_of x) (λ k d lt.
       let c : Element = get_or (elements_of x) k d in
       let sound_c : IsSound c = sound_elements x sound k d lt in
       let else : IsHeldElse e c = λ is. not_value (list_any_at (λ c. is_rdf (codes "value") (name_of c)) (elements_of x) k d lt is) in
-      child_member depth reached with_value (value_within levels) (lang_of e) c
+      child_member depth reached with_value (value_within levels) (lang_qualifiers e) c
       (one_child with_value c sound_c (near_member levels depth e c reached enough else)
       (faultless_each (λ c. property_visits levels (roles.Property (holders.Value with_value)) (member_depth depth c) c) (elements_of x) h k d lt))
       (λ is. langs c sound_c (λ tagged. from_filter (λ c. is_rdf (codes "value") (name_of c)) (λ c. has_attribute is_lang c ≡ false) (elements_of x)
@@ -113,7 +113,7 @@ module _ (levels : ℕ) (law : FormedAt levels) (depth : ℕ) (e : Element) (rea
       not_value has = ⊎_elim (λ off. off) (λ none. absurd (both_ways (has_element (is_rdf (codes "value")) x) none has))
           (and_cases (is_value_element e) (has_element (is_rdf (codes "value")) x) held)
 
-      langs : (c : Element) → IsSound c → (has_lang_value x ≡ false → has_attribute is_lang c ≡ false) → (lang_of e ≡ []) ⊎ (lang_of c ≡ [])
+      langs : (c : Element) → IsSound c → (has_lang_value x ≡ false → has_attribute is_lang c ≡ false) → (lang_qualifiers e ≡ []) ⊎ (lang_qualifiers c ≡ [])
       langs c sound_c tells =
           ⊎_elim (λ none. inl (lang_none e sound_e none)) (λ none. inr (lang_none c sound_c (tells none)))
           (and_cases (has_attribute is_lang e) (has_lang_value x) once)

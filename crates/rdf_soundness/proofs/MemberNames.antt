@@ -13,8 +13,8 @@ use Rattle.xmp_tree.specs.declared.nested.Value.{Value}
 use Rattle.xmp_tree.specs.Wf.{NamesDiffer}
 use Rattle.xmp_tree.specs.Wf as tree
 use Rattle.xmp_tree.proofs.Made.{name-member}
-use Rattle.rdf_forms.specs.Words.{is_rdf, is_own}
-use Rattle.rdf_forms.specs.Parts.{name_of, attributes_of, elements_of, own_attributes, has_attribute, has_element}
+use Rattle.rdf_forms.specs.Words.{is_rdf, is_member_name}
+use Rattle.rdf_forms.specs.Parts.{name_of, attributes_of, elements_of, property_attributes, has_attribute, has_element}
 use Rattle.rdf_forms.specs.Visits.{has_value_member}
 use Rattle.rdf_forms.specs.MemberRules.{has_again, attribute_names, member_names, other_names}
 use Rattle.rdf_forms.specs.Values.{plain, attribute_member, element_member, is_value_member, other_members, is_node_member, node_members}
@@ -50,15 +50,15 @@ elements_apart read e h =
     others_apart (element_members read e) (other_names (map name_of (elements_of e))) (ap other_names (names-elements read (elements_of e))) h
 
 -- without `rdf:value` the attributes that are members are the property attributes
-node_names : (xs : List Attribute) → other_names (attribute_names (filter is_node_member xs)) ≡ other_names (attribute_names (filter (λ (a : Attribute). is_own a.name) xs))
+node_names : (xs : List Attribute) → other_names (attribute_names (filter is_node_member xs)) ≡ other_names (attribute_names (filter (λ (a : Attribute). is_member_name a.name) xs))
 node_names [] = refl
-node_names (a ∷ xs) = by (is_own a.name) (is_rdf (codes "value") a.name) (λ own. outside_not_rdf (codes "value") a.name (own_outside a.name own)) refl (node_names xs)
+node_names (a ∷ xs) = by (is_member_name a.name) (is_rdf (codes "value") a.name) (λ own. outside_not_rdf (codes "value") a.name (own_outside a.name own)) refl (node_names xs)
   where
     node : List Attribute
     node = filter is_node_member xs
 
     own : List Attribute
-    own = filter (λ (a : Attribute). is_own a.name) xs
+    own = filter (λ (a : Attribute). is_member_name a.name) xs
 
     by : (o v : Bool) → (o ≡ true → v ≡ false) → is_rdf (codes "value") a.name ≡ v → other_names (attribute_names node) ≡ other_names (attribute_names own)
         → other_names (attribute_names (cond (o || v) (a ∷ node) node)) ≡ other_names (attribute_names (cond o (a ∷ own) own))
@@ -79,7 +79,7 @@ node_apart read n h =
     let others : other_names (map tree.name_of (members_of_node read n)) ≡ other_names (member_names n) =
     ap other_names names ∙ filter-append p (attribute_names attributes) (map name_of (elements_of n))
     ∙ ap (λ ns. ns ++ other_names (map name_of (elements_of n))) (node_names (attributes_of n))
-    ∙ sym (filter-append p (attribute_names (own_attributes n)) (map name_of (elements_of n))) in
+    ∙ sym (filter-append p (attribute_names (property_attributes n)) (map name_of (elements_of n))) in
     others_apart (members_of_node read n) (other_names (member_names n)) others h
 
 -- ---- `rdf:value` among the members
@@ -91,7 +91,7 @@ elements_valued read e =
 
 node_valued_attributes : (xs : List Attribute) → list_any is_value_member (map attribute_member (filter is_node_member xs)) ≡ list_any (λ (a : Attribute). is_rdf (codes "value") a.name) xs
 node_valued_attributes [] = refl
-node_valued_attributes (a ∷ xs) = by (is_own a.name) (is_rdf (codes "value") a.name) (λ own. outside_not_rdf (codes "value") a.name (own_outside a.name own)) (value-attribute a) (node_valued_attributes xs)
+node_valued_attributes (a ∷ xs) = by (is_member_name a.name) (is_rdf (codes "value") a.name) (λ own. outside_not_rdf (codes "value") a.name (own_outside a.name own)) (value-attribute a) (node_valued_attributes xs)
   where
     node : List Attribute
     node = filter is_node_member xs

@@ -15,13 +15,13 @@ use Rattle.xmp_tree.proofs.Made.{name-member, value-member, formed_member, depth
 use Rattle.rdf_forms.specs.declared.roles.Role.{Role}
 use Rattle.rdf_forms.specs.declared.roles.Role.TheVariants as roles
 use Rattle.rdf_forms.specs.declared.roles.Holder.TheVariants as holders
-use Rattle.rdf_forms.specs.Words.{is_rdf, in_rdf, in_xml, in_none, is_lang, is_own}
+use Rattle.rdf_forms.specs.Words.{is_rdf, in_rdf, in_xml, in_none, is_lang, is_member_name}
 use Rattle.rdf_forms.specs.Parts.{name_of, has_attribute}
 use Rattle.rdf_forms.specs.Visits.{member_depth}
 use Rattle.rdf_forms.specs.NameRules.{no_namespace, is_bare, is_bare_element, xml_name, is_xml, rdf_name, is_allowed_member, is_type_element, has_some_attribute}
 use Rattle.rdf_forms.specs.FormRules.{is_value_element}
 use Rattle.rdf_forms.specs.MemberRules.{too_deep, tree_deep, most_depth}
-use Rattle.rdf_forms.specs.Values.{plain, attribute_member, lang_of, element_member, is_value_member, is_node_member}
+use Rattle.rdf_forms.specs.Values.{plain, attribute_member, lang_qualifiers, element_member, is_value_member, is_node_member}
 use Rattle.rdf_soundness.specs.Formed.{Formed}
 use Rattle.rdf_soundness.proofs.Words.{IsOutside, own_space, sound_named, outside_not_rdf, type_is}
 use Rattle.rdf_soundness.proofs.Unbroken.{IsUnbroken}
@@ -35,22 +35,22 @@ use Rattle.rdf_soundness.proofs.Composed.{IsOther, IsHeld, IsMember}
 pub record IsRoomy (depth : ℕ) (e : Element) : Type 0 where
   pub reached : depth ≤ 24
   pub lang : has_attribute is_lang e ≡ true → 1 ≤ 24 - depth
-  pub own : has_attribute is_own e ≡ true → 1 ≤ 24 - depth
+  pub own : has_attribute is_member_name e ≡ true → 1 ≤ 24 - depth
 
 pub roomy : (depth : ℕ) (e : Element) → too_deep depth e ≡ false → IsRoomy depth e
 roomy depth e h =
-    let parts = or_parts (nat_lt most_depth depth) (depth == most_depth && (has_attribute is_lang e || has_attribute is_own e)) h in
+    let parts = or_parts (nat_lt most_depth depth) (depth == most_depth && (has_attribute is_lang e || has_attribute is_member_name e)) h in
     let reached : depth ≤ 24 = ltb-false most_depth depth parts.0 in
     record {
       reached = reached;
-      lang = λ has. by reached (and_cases (depth == most_depth) (has_attribute is_lang e || has_attribute is_own e) parts.1)
-          (λ none. both_ways (has_attribute is_lang e) (or_parts (has_attribute is_lang e) (has_attribute is_own e) none).0 has);
-      own = λ has. by reached (and_cases (depth == most_depth) (has_attribute is_lang e || has_attribute is_own e) parts.1)
-          (λ none. both_ways (has_attribute is_own e) (or_parts (has_attribute is_lang e) (has_attribute is_own e) none).1 has);
+      lang = λ has. by reached (and_cases (depth == most_depth) (has_attribute is_lang e || has_attribute is_member_name e) parts.1)
+          (λ none. both_ways (has_attribute is_lang e) (or_parts (has_attribute is_lang e) (has_attribute is_member_name e) none).0 has);
+      own = λ has. by reached (and_cases (depth == most_depth) (has_attribute is_lang e || has_attribute is_member_name e) parts.1)
+          (λ none. both_ways (has_attribute is_member_name e) (or_parts (has_attribute is_lang e) (has_attribute is_member_name e) none).1 has);
     }
   where
-    by : depth ≤ 24 → ((depth == most_depth) ≡ false) ⊎ ((has_attribute is_lang e || has_attribute is_own e) ≡ false)
-        → ((has_attribute is_lang e || has_attribute is_own e) ≡ false → ⊥) → 1 ≤ 24 - depth
+    by : depth ≤ 24 → ((depth == most_depth) ≡ false) ⊎ ((has_attribute is_lang e || has_attribute is_member_name e) ≡ false)
+        → ((has_attribute is_lang e || has_attribute is_member_name e) ≡ false → ⊥) → 1 ≤ 24 - depth
     by reached (inl other) some = let differ = eqb-false depth 24 other in omega (arith, differ)
     by reached (inr none) some = absurd (some none)
 
@@ -87,8 +87,8 @@ module _ (room : ℕ) (with_value : Bool) (lang : List Member) (a : Attribute) (
         };
       }
 
-  pub node_attribute : (is_own a.name ≡ true → IsOwnAttribute room a) → is_node_member a ≡ true → IsMember room with_value lang (attribute_member a)
-  node_attribute own h = ⊎_elim (λ is. own_member (own is)) value_attribute (or_cases (is_own a.name) (is_rdf (codes "value") a.name) h)
+  pub node_attribute : (is_member_name a.name ≡ true → IsOwnAttribute room a) → is_node_member a ≡ true → IsMember room with_value lang (attribute_member a)
+  node_attribute own h = ⊎_elim (λ is. own_member (own is)) value_attribute (or_cases (is_member_name a.name) (is_rdf (codes "value") a.name) h)
 
 -- ---- child elements
 
@@ -168,20 +168,20 @@ module _ (depth : ℕ) (reached : depth ≤ 24) (with_value : Bool) (read : Elem
       by (inr (inr (is, with, kind))) =
           inr (same_name ∙ (type_is (name_of c)).0 is, with, subst IsPlainUri (sym same_value) (h.formed.typed kind))
 
-  child_held : is_value_element c ≡ true → (lang ≡ []) ⊎ (lang_of c ≡ []) → IsHeld (24 - depth) lang (tree.value_of m)
+  child_held : is_value_element c ≡ true → (lang ≡ []) ⊎ (lang_qualifiers c ≡ []) → IsHeld (24 - depth) lang (tree.value_of m)
   unfolding member_depth
   child_held is once =
       let at : member_depth depth c ≡ depth = cond-true (is_value_element c) depth (depth + 1) is in
       let shallow : value_depth (read c) ≤ 25 - depth = subst (λ (d : ℕ). value_depth (read c) ≤ 25 - d) at h.formed.shallow in
       let room = subst (λ (d : ℕ). IsRoomy d c) at (child_roomy with_value (member_depth depth c) c [] [] h.unbroken) in
-      let quals : (out-Value (tree.value_of m)).quals ≡ lang_of c = ap (λ v. (out-Value v).quals) same_value ∙ h.formed.bare is in
+      let quals : (out-Value (tree.value_of m)).quals ≡ lang_qualifiers c = ap (λ v. (out-Value v).quals) same_value ∙ h.formed.bare is in
       record {
         shallow = subst (λ v. value_depth v ≤ 24 - depth + 1) (sym same_value) (omega (arith, shallow, reached));
         tagged = subst (IsTag (24 - depth)) (sym quals) (lang_tag (24 - depth) c h.sound room.lang);
         once = ⊎_elim inl (λ none. inr (quals ∙ none)) once;
       }
 
-  pub child_member : (is_value_element c ≡ true → (lang ≡ []) ⊎ (lang_of c ≡ [])) → IsMember (24 - depth) with_value lang m
+  pub child_member : (is_value_element c ≡ true → (lang ≡ []) ⊎ (lang_qualifiers c ≡ [])) → IsMember (24 - depth) with_value lang m
   child_member once = record {
     formed = formed_member (name_of c) (read c) (sound_named (name_of c) h.sound.named) h.formed.formed;
     shallow = λ off. child_shallow (sym (value-element read c) ∙ off);

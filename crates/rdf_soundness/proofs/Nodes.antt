@@ -12,7 +12,7 @@ use Rattle.xmp_tree.specs.declared.nested.Member.{Member}
 use Rattle.xmp_tree.specs.declared.nested.Value.{Value}
 use Rattle.xmp_tree.proofs.Made.{name-member}
 use Rattle.rdf_forms.specs.declared.roles.Role.TheVariants as roles
-use Rattle.rdf_forms.specs.Words.{rdf_space, is_rdf, is_own}
+use Rattle.rdf_forms.specs.Words.{rdf_space, is_rdf, is_member_name}
 use Rattle.rdf_forms.specs.Parts.{name_of, attributes_of, elements_of, has_attribute, has_element}
 use Rattle.rdf_forms.specs.Visits.{is_typed, has_value_member}
 use Rattle.rdf_forms.specs.MemberRules.{most_depth, tree_deep, twice, has_again, other_names, member_names}
@@ -49,7 +49,7 @@ typing room n sound some =
 -- ---- what the rules leave of a node
 
 pub record IsUnbrokenNode (depth : ℕ) (n : Element) : Type 0 where
-  pub own : has_attribute is_own n ≡ true → 1 ≤ 24 - depth
+  pub own : has_attribute is_member_name n ≡ true → 1 ≤ 24 - depth
   pub typed : is_typed n ≡ true → 1 ≤ 24 - depth
   pub apart : has_again (other_names (member_names n)) ≡ false
   pub type_once : (is_typed n ≡ false) ⊎ (has_element (is_rdf (codes "type")) n ≡ false)
@@ -58,15 +58,15 @@ pub node_facts : (depth : ℕ) (n : Element) (first : List ℕ) (names : List Na
 unfolding tree_deep twice
 node_facts depth n first names reached h =
     let once = or_parts (has_again (other_names (member_names n))) (is_typed n && has_element (is_rdf (codes "type")) n) h.once in
-    let deep = and_cases (depth == most_depth) (has_attribute is_own n || is_typed n) h.shallow in
+    let deep = and_cases (depth == most_depth) (has_attribute is_member_name n || is_typed n) h.shallow in
     record {
-      own = λ has. by deep (λ none. both_ways (has_attribute is_own n) (or_parts (has_attribute is_own n) (is_typed n) none).0 has);
-      typed = λ has. by deep (λ none. both_ways (is_typed n) (or_parts (has_attribute is_own n) (is_typed n) none).1 has);
+      own = λ has. by deep (λ none. both_ways (has_attribute is_member_name n) (or_parts (has_attribute is_member_name n) (is_typed n) none).0 has);
+      typed = λ has. by deep (λ none. both_ways (is_typed n) (or_parts (has_attribute is_member_name n) (is_typed n) none).1 has);
       apart = once.0;
       type_once = and_cases (is_typed n) (has_element (is_rdf (codes "type")) n) once.1;
     }
   where
-    by : ((depth == most_depth) ≡ false) ⊎ ((has_attribute is_own n || is_typed n) ≡ false) → ((has_attribute is_own n || is_typed n) ≡ false → ⊥) → 1 ≤ 24 - depth
+    by : ((depth == most_depth) ≡ false) ⊎ ((has_attribute is_member_name n || is_typed n) ≡ false) → ((has_attribute is_member_name n || is_typed n) ≡ false → ⊥) → 1 ≤ 24 - depth
     by (inl other) some = let differ = eqb-false depth 24 other in omega (arith, differ, reached)
     by (inr none) some = absurd (some none)
 
@@ -82,7 +82,7 @@ not_type_attribute a h same =
     ⊎_elim
     (λ own. both_ways (is_rdf (codes "type") a.name) (outside_not_rdf (codes "type") a.name (own_outside a.name own)) is)
     (λ valued. both_ways (is_rdf (codes "type") a.name) (value_not_type a.name valued) is)
-    (or_cases (is_own a.name) (is_rdf (codes "value") a.name) h)
+    (or_cases (is_member_name a.name) (is_rdf (codes "value") a.name) h)
 
 pub no_type : (read : Element → Value) (n : Element) → has_element (is_rdf (codes "type")) n ≡ false → All IsNoType (members_of_node read n)
 unfolding node_members
@@ -97,7 +97,7 @@ no_type read n h =
 
 -- ---- the members of a node
 
-attributes_are_members : (room : ℕ) (with_value : Bool) (lang : List Member) (n : Element) → IsSound n → (has_attribute is_own n ≡ true → 1 ≤ room)
+attributes_are_members : (room : ℕ) (with_value : Bool) (lang : List Member) (n : Element) → IsSound n → (has_attribute is_member_name n ≡ true → 1 ≤ room)
     → All (IsMember room with_value lang) (node_members n)
 unfolding node_members
 attributes_are_members room with_value lang n sound some =
@@ -105,7 +105,7 @@ attributes_are_members room with_value lang n sound some =
     let a : Attribute = get_or (filter is_node_member (attributes_of n)) k d in
     node_attribute room with_value lang a
     (All-filter is_node_member IsSoundAttribute (attributes_of n) sound.attributed.each k d lt)
-    (All-filter is_node_member (λ (a : Attribute). is_own a.name ≡ true → IsOwnAttribute room a) (attributes_of n) (own_attribute room n sound some) k d lt)
+    (All-filter is_node_member (λ (a : Attribute). is_member_name a.name ≡ true → IsOwnAttribute room a) (attributes_of n) (own_attribute room n sound some) k d lt)
     (filter_passes is_node_member (attributes_of n) k d lt))
 
 pub node_are_members : (depth : ℕ) (lang : List Member) (read : Element → Value) (n : Element) → IsSound n → IsUnbrokenNode depth n

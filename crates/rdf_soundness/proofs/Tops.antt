@@ -17,7 +17,7 @@ use Rattle.rdf_forms.specs.declared.roles.Role.{Role}
 use Rattle.rdf_forms.specs.declared.roles.Role.TheVariants as roles
 use Rattle.rdf_forms.specs.declared.roles.Holder.TheVariants as holders
 use Rattle.rdf_forms.specs.Words.{same_name, in_rdf, in_xml}
-use Rattle.rdf_forms.specs.Parts.{name_of, elements_of, own_attributes}
+use Rattle.rdf_forms.specs.Parts.{name_of, elements_of, property_attributes}
 use Rattle.rdf_forms.specs.Visits.{Visit, member_depth, member_visits, property_visits, top_visits}
 use Rattle.rdf_forms.specs.NameRules.{no_namespace, is_bare, is_bare_element, xml_name, is_xml, rdf_name, is_allowed_member, has_some_attribute}
 use Rattle.rdf_forms.specs.FormRules.{is_value_element}
@@ -34,7 +34,7 @@ use Rattle.rdf_soundness.proofs.Children.{first_unbroken}
 use Rattle.rdf_soundness.proofs.Values.{formed_property}
 
 abbrev pub top_members : ℕ → Element → List Member
-top_members levels t = map attribute_member (own_attributes t) ++ map (element_member (value_within levels)) (elements_of t)
+top_members levels t = map attribute_member (property_attributes t) ++ map (element_member (value_within levels)) (elements_of t)
 
 -- ---- a child element of a top
 
@@ -60,9 +60,9 @@ record IsTopMember (m : Member) : Type 0 where
 names-top : (levels : ℕ) (t : Element) → map tree.name_of (top_members levels t) ≡ member_names t
 unfolding member_names
 names-top levels t =
-    map-append tree.name_of (map attribute_member (own_attributes t)) (map (element_member (value_within levels)) (elements_of t))
-    ∙ ap (λ ns. ns ++ map tree.name_of (map (element_member (value_within levels)) (elements_of t))) (names-attributes (own_attributes t))
-    ∙ ap (λ ns. attribute_names (own_attributes t) ++ ns) (names-elements (value_within levels) (elements_of t))
+    map-append tree.name_of (map attribute_member (property_attributes t)) (map (element_member (value_within levels)) (elements_of t))
+    ∙ ap (λ ns. ns ++ map tree.name_of (map (element_member (value_within levels)) (elements_of t))) (names-attributes (property_attributes t))
+    ∙ ap (λ ns. attribute_names (property_attributes t) ++ ns) (names-elements (value_within levels) (elements_of t))
 
 names-row : (levels : ℕ) (ts : List Element) → map tree.name_of (flat_map (top_members levels) ts) ≡ flat_map member_names ts
 names-row levels [] = refl
@@ -111,7 +111,7 @@ module _ (levels : ℕ) (enough : 60 ≤ levels) where
   top_formed : (t : Element) → IsSound t → has_again (member_names t) ≡ false
       → IsFaultless (member_visits (property_visits levels) holders.Top 0 (elements_of t)) → AreWellFormed 24 (top_members levels t)
   top_formed t sound once h =
-      let attributes : List Member = map attribute_member (own_attributes t) in
+      let attributes : List Member = map attribute_member (property_attributes t) in
       let elements : List Member = map (element_member (value_within levels)) (elements_of t) in
       let front = own_formed 24 t sound (λ has. omega arith) in
       let back = All-map IsTopMember (element_member (value_within levels)) (elements_of t) (each_child t sound h) in

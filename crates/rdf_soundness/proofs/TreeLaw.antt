@@ -18,7 +18,7 @@ use Rattle.xmp_tree.specs.Wf.{IsOwnSpace, IsWfMember, member_depth, AreWellForme
 use Rattle.xmp_tree.specs.Wf as tree
 use Rattle.rdf_forms.specs.declared.roles.Role.TheVariants as roles
 use Rattle.rdf_forms.specs.Words.{is_rdf, is_meta, is_bare_about, same_name}
-use Rattle.rdf_forms.specs.Parts.{name_of, place_of, elements_of, own_attributes, attribute_value}
+use Rattle.rdf_forms.specs.Parts.{name_of, place_of, elements_of, property_attributes, attribute_value}
 use Rattle.rdf_forms.specs.Visits.{Visit, visit, top_visits, rdf_visits, child_visits}
 use Rattle.rdf_forms.specs.NameRules.{no_rdf, is_one_rdf, first_of, about_of, first_about}
 use Rattle.rdf_forms.specs.Rules.{fault_of}
@@ -61,11 +61,11 @@ without_places place m (x ∷ xs) = ap (λ ms. m x ∷ ms) (without_places place
 
 members-top : (levels : ℕ) (t : Element) → map (λ (p : Placed). p.1) (placed_in levels t) ≡ top_members levels t
 members-top levels t =
-    let attributes : List Placed = map (λ (a : Attribute). (place_of t, attribute_member a)) (own_attributes t) in
+    let attributes : List Placed = map (λ (a : Attribute). (place_of t, attribute_member a)) (property_attributes t) in
     let elements : List Placed = map (λ c. (place_of c, element_member (value_within levels) c)) (elements_of t) in
     map-append (λ (p : Placed). p.1) attributes elements
-    ∙ ap (λ ms. ms ++ map (λ (p : Placed). p.1) elements) (without_places (λ a. place_of t) attribute_member (own_attributes t))
-    ∙ ap (λ ms. map attribute_member (own_attributes t) ++ ms) (without_places place_of (element_member (value_within levels)) (elements_of t))
+    ∙ ap (λ ms. ms ++ map (λ (p : Placed). p.1) elements) (without_places (λ a. place_of t) attribute_member (property_attributes t))
+    ∙ ap (λ ms. map attribute_member (property_attributes t) ++ ms) (without_places place_of (element_member (value_within levels)) (elements_of t))
 
 members-row : (levels : ℕ) (ts : List Element) → map (λ (p : Placed). p.1) (flat_map (placed_in levels) ts) ≡ flat_map (top_members levels) ts
 members-row levels [] = refl

@@ -11,18 +11,18 @@ use Rattle.xmp_tree.specs.declared.nested.Shape.{Uri}
 use Rattle.xmp_tree.specs.Parts.{value}
 use Rattle.xmp_tree.specs.Wf.{IsPlainUri}
 use Rattle.xmp_tree.proofs.Made.{plain_uri}
-use Rattle.rdf_forms.specs.Words.{rdf_space, xml_space, is_rdf, is_lang, is_own, in_none, in_rdf, in_xml, rdf}
-use Rattle.rdf_forms.specs.Parts.{attributes_of, elements_of, own_attributes, attribute_value, has_blank_text}
+use Rattle.rdf_forms.specs.Words.{rdf_space, xml_space, is_rdf, is_lang, is_member_name, in_none, in_rdf, in_xml, rdf}
+use Rattle.rdf_forms.specs.Parts.{attributes_of, elements_of, property_attributes, attribute_value, has_blank_text}
 use Rattle.rdf_forms.specs.Forms.{ByMembers, ByAttributes, ByText, form_of, form_by, parse_type, is_resource, has_other_attribute}
 use Rattle.rdf_forms.specs.NameRules.{is_type_attributes, is_childless, is_type_element}
-use Rattle.rdf_forms.specs.Values.{attribute_member, lang_member, listed, lang_of, attributed, by_attributes, formed}
+use Rattle.rdf_forms.specs.Values.{attribute_member, lang_member, listed, lang_qualifiers, attributed, by_attributes, formed}
 use Rattle.rdf_soundness.proofs.Words.{rdf_is}
 
 abbrev resource : Name
 resource = rdf (codes "resource")
 
-resource_alone : (is_rdf (codes "parseType") resource ≡ false) × (is_rdf (codes "value") resource ≡ false) × (is_lang resource ≡ false) × (is_own resource ≡ false)
-unfolding is_rdf is_lang is_own in_none in_rdf in_xml rdf_space xml_space
+resource_alone : (is_rdf (codes "parseType") resource ≡ false) × (is_rdf (codes "value") resource ≡ false) × (is_lang resource ≡ false) × (is_member_name resource ≡ false)
+unfolding is_rdf is_lang is_member_name in_none in_rdf in_xml rdf_space xml_space
 resource_alone = (refl, refl, refl, refl)
 
 sole : (xs : List Attribute) → is_type_attributes xs ≡ true → (a : Attribute) × (xs ≡ a ∷ []) × (is_rdf (codes "resource") a.name ≡ true)
@@ -50,15 +50,15 @@ module _ (e : Element) (a : Attribute) (is : attributes_of e ≡ a ∷ []) (name
   no_value : attribute_value (is_rdf (codes "value")) e ≡ None
   no_value = sole_value (is_rdf (codes "value")) false (ap (is_rdf (codes "value")) same ∙ resource_alone.1)
 
-  no_lang : lang_of e ≡ []
-  unfolding lang_of
+  no_lang : lang_qualifiers e ≡ []
+  unfolding lang_qualifiers
   no_lang = ap (λ o. listed (option_map lang_member o)) (sole_value is_lang false (ap is_lang same ∙ resource_alone.2))
 
   uri : attribute_value (is_rdf (codes "resource")) e ≡ Some a.value
   uri = sole_value (is_rdf (codes "resource")) true named
 
-  no_own : own_attributes e ≡ []
-  no_own = ap (λ xs. filter (λ (x : Attribute). is_own x.name) xs) is ∙ ap (λ b. cond b (a ∷ []) []) (ap is_own same ∙ resource_alone.3)
+  no_own : property_attributes e ≡ []
+  no_own = ap (λ xs. filter (λ (x : Attribute). is_member_name x.name) xs) is ∙ ap (λ b. cond b (a ∷ []) []) (ap is_member_name same ∙ resource_alone.3)
 
   has_other : has_other_attribute e ≡ true
   has_other =
@@ -74,7 +74,7 @@ module _ (e : Element) (a : Attribute) (is : attributes_of e ≡ a ∷ []) (name
   its_uri : by_attributes e ≡ value (Uri a.value) []
   unfolding by_attributes
   its_uri =
-      ap (λ lang. attributed lang (map attribute_member (own_attributes e)) (attribute_value (is_rdf (codes "value")) e) (attribute_value (is_rdf (codes "resource")) e)) no_lang
+      ap (λ lang. attributed lang (map attribute_member (property_attributes e)) (attribute_value (is_rdf (codes "value")) e) (attribute_value (is_rdf (codes "resource")) e)) no_lang
       ∙ ap (λ xs. attributed [] (map attribute_member xs) (attribute_value (is_rdf (codes "value")) e) (attribute_value (is_rdf (codes "resource")) e)) no_own
       ∙ ap (λ o. attributed [] [] o (attribute_value (is_rdf (codes "resource")) e)) no_value
       ∙ ap (λ o. attributed [] [] None o) uri

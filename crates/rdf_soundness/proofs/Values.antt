@@ -11,13 +11,13 @@ use Rattle.xmp_tree.specs.declared.nested.Shape.{Simple, Array}
 use Rattle.xmp_tree.specs.Wf.{IsWfValue, value_depth}
 use Rattle.xmp_tree.proofs.WfLemmas.{within_array}
 use Rattle.rdf_forms.specs.declared.roles.Role.TheVariants as roles
-use Rattle.rdf_forms.specs.Words.{is_rdf, is_lang, is_own}
+use Rattle.rdf_forms.specs.Words.{is_rdf, is_lang, is_member_name}
 use Rattle.rdf_forms.specs.Parts.{name_of, elements_of, elements_named, own_text, has_attribute, has_element}
 use Rattle.rdf_forms.specs.Forms.{Form, ByMembers, ByContainer, ByNode, ByAttributes, ByText, NoForm, form_of}
 use Rattle.rdf_forms.specs.Visits.{visit, has_value_member, is_typed, members_holder, node_holder, item_visits, member_visits, form_visits, property_visits}
 use Rattle.rdf_forms.specs.FormRules.{is_value_element, has_two_values, has_value_again, has_qualified_uri}
 use Rattle.rdf_forms.specs.MemberRules.{has_inner_value, repeats_member, has_lang_value, has_again, other_names}
-use Rattle.rdf_forms.specs.Values.{lang_of, kind_of, type_of, formed, value_within}
+use Rattle.rdf_forms.specs.Values.{lang_qualifiers, kind_of, type_of, formed, value_within}
 use Rattle.rdf_soundness.specs.Formed.{Enough, Formed, FormedProperties}
 use Rattle.rdf_soundness.proofs.Unbroken.{IsFaultless, faultless_cons}
 use Rattle.rdf_soundness.proofs.Elements.{sound_elements, sound_text}
@@ -33,14 +33,14 @@ use Rattle.rdf_soundness.proofs.Children.{FormedAt, children_are_members, items_
 -- a value that fits at its depth, and has `xml:lang` as its one qualifier where the element is `rdf:value`
 record IsAnswer (depth : ℕ) (e : Element) (v : Value) : Type 0 where
   fit : IsFit (24 - depth) v
-  bare : is_value_element e ≡ true → (out-Value v).quals ≡ lang_of e
+  bare : is_value_element e ≡ true → (out-Value v).quals ≡ lang_qualifiers e
 
 module _ (levels : ℕ) (law : FormedAt levels) (depth : ℕ) (e : Element) (sound : IsSound e) (enough : Enough (suc levels) depth e)
     (facts : IsUnbrokenForm depth e) where
   abbrev read : Element → Value
   read = value_within levels
 
-  tag : IsTag (24 - depth) (lang_of e)
+  tag : IsTag (24 - depth) (lang_qualifiers e)
   tag = lang_tag (24 - depth) e sound facts.room.lang
 
   -- what TwiceValue leaves of an element `rdf:value`
@@ -54,15 +54,15 @@ module _ (levels : ℕ) (law : FormedAt levels) (depth : ℕ) (e : Element) (sou
       let with_value : Bool = has_element (is_rdf (codes "value")) e in
       let held = (or_parts (nat_le 2 (length (elements_named (is_rdf (codes "value")) e))) (is_value_element e && with_value) inner).1 in
       let parts = or_parts (has_again (other_names (map name_of (elements_of e)))) (has_attribute is_lang e && has_lang_value e) once in
-      let members : AreMembers (24 - depth) with_value (lang_of e) [] (element_members read e) = record {
+      let members : AreMembers (24 - depth) with_value (lang_qualifiers e) [] (element_members read e) = record {
         each = children_are_members levels law depth e facts.room.reached enough with_value e sound sound held parts.1 h;
         valued = elements_valued read e;
         apart = elements_apart read e parts.0;
         type_once = inl refl;
       } in
       record {
-        fit = members_fit (24 - depth) with_value (lang_of e) [] (element_members read e) tag (inl refl) members;
-        bare = λ is. members_bare (24 - depth) with_value (lang_of e) [] (element_members read e) tag (inl refl) members (no_inner with_value held is) refl;
+        fit = members_fit (24 - depth) with_value (lang_qualifiers e) [] (element_members read e) tag (inl refl) members;
+        bare = λ is. members_bare (24 - depth) with_value (lang_qualifiers e) [] (element_members read e) tag (inl refl) members (no_inner with_value held is) refl;
       }
 
   from_node : (n : Element) → IsSound n → has_inner_value (ByNode n) e ≡ false → repeats_member (ByNode n) e ≡ false
@@ -75,11 +75,11 @@ module _ (levels : ℕ) (law : FormedAt levels) (depth : ℕ) (e : Element) (sou
       let node = node_facts depth n [] [] facts.room.reached visited.0 in
       let typings = typing (24 - depth) n sound_n node.typed in
       let elements = children_are_members levels law depth e facts.room.reached enough with_value n sound sound_n (not_held n inner) once visited.1 in
-      let members = node_are_members depth (lang_of e) read n sound_n node elements in
+      let members = node_are_members depth (lang_qualifiers e) read n sound_n node elements in
       record {
-        fit = members_fit (24 - depth) with_value (lang_of e) types (members_of_node read n) tag typings members;
+        fit = members_fit (24 - depth) with_value (lang_qualifiers e) types (members_of_node read n) tag typings members;
         bare = λ is. let none = or_parts with_value (is_typed n) (no_inner (with_value || is_typed n) inner is) in
-            members_bare (24 - depth) with_value (lang_of e) types (members_of_node read n) tag typings members none.0 (untyped n none.1);
+            members_bare (24 - depth) with_value (lang_qualifiers e) types (members_of_node read n) tag typings members none.0 (untyped n none.1);
       }
     where
       not_held : (n : Element) → (is_value_element e && (has_value_member n || is_typed n)) ≡ false → (is_value_element e && has_element (is_rdf (codes "value")) n) ≡ false
@@ -100,14 +100,14 @@ module _ (levels : ℕ) (law : FormedAt levels) (depth : ℕ) (e : Element) (sou
             (λ d k. let shallow : value_depth (read d) ≤ 25 - (depth + 1) = k.shallow in omega (arith, shallow)) (elements_of c) items),
       ) in
       record {
-        fit = fit_value (24 - depth) (Array (kind_of (name_of c)) (map read (elements_of c))) (lang_of e) shape.0 shape.1 (tagged_alone (24 - depth) (lang_of e) tag);
-        bare = λ is. quals-value (Array (kind_of (name_of c)) (map read (elements_of c))) (lang_of e);
+        fit = fit_value (24 - depth) (Array (kind_of (name_of c)) (map read (elements_of c))) (lang_qualifiers e) shape.0 shape.1 (tagged_alone (24 - depth) (lang_qualifiers e) tag);
+        bare = λ is. quals-value (Array (kind_of (name_of c)) (map read (elements_of c))) (lang_qualifiers e);
       }
 
   from_text : IsAnswer depth e (formed read e ByText)
   from_text = record {
-    fit = fit_value (24 - depth) (Simple (own_text e)) (lang_of e) (sound_text e sound) (omega arith) (tagged_alone (24 - depth) (lang_of e) tag);
-    bare = λ is. quals-value (Simple (own_text e)) (lang_of e);
+    fit = fit_value (24 - depth) (Simple (own_text e)) (lang_qualifiers e) (sound_text e sound) (omega arith) (tagged_alone (24 - depth) (lang_qualifiers e) tag);
+    bare = λ is. quals-value (Simple (own_text e)) (lang_qualifiers e);
   }
 
   from_attributes : IsAnswer depth e (formed read e ByAttributes)
@@ -119,7 +119,7 @@ module _ (levels : ℕ) (law : FormedAt levels) (depth : ℕ) (e : Element) (sou
         fit = attributes_fit (24 - depth) e sound facts.room.lang facts.room.own;
         bare = λ is. attributes_bare e sound (no_inner (has_attribute (is_rdf (codes "value")) e) again is)
             (⊎_elim (λ none. inl (no_inner (has_attribute (is_rdf (codes "resource")) e) none is)) inr
-            (and_cases (is_value_element e && has_attribute (is_rdf (codes "resource")) e) (has_attribute is_own e) front.1));
+            (and_cases (is_value_element e && has_attribute (is_rdf (codes "resource")) e) (has_attribute is_member_name e) front.1));
       }
 
   from_form : (f : Form) → IsSoundForm f → has_inner_value f e ≡ false → repeats_member f e ≡ false

@@ -11,7 +11,7 @@ use Rattle.xml_grammar.proofs.SoundPieces.{same_bytes, bytes_same}
 use Rattle.xml_grammar.proofs.Repeats.{apart_from_test, fails_differ}
 pub use Rattle.xmp_values.proofs.SameNames.{same_name_is}
 use Rattle.xmp_tree.specs.Wf.{IsOwnSpace, IsNamed, lang_name, type_name}
-use Rattle.rdf_forms.specs.Words.{rdf_space, xml_space, same_name, rdf, is_rdf, in_rdf, in_xml, in_none, is_own}
+use Rattle.rdf_forms.specs.Words.{rdf_space, xml_space, same_name, rdf, is_rdf, in_rdf, in_xml, in_none, is_member_name}
 use Rattle.rdf_forms.specs.MemberRules.{has_again}
 
 -- ---- names that are the same
@@ -61,8 +61,8 @@ pub record IsOutside (n : Name) : Type 0 where
   pub not_rdf : in_rdf n ≡ false
   pub not_xml : in_xml n ≡ false
 
-pub own_outside : (n : Name) → is_own n ≡ true → IsOutside n
-unfolding is_own
+pub own_outside : (n : Name) → is_member_name n ≡ true → IsOutside n
+unfolding is_member_name
 own_outside n h =
     let front = and_parts (not (in_none n) && not (in_rdf n)) (not (in_xml n)) h in
     let parts = and_parts (not (in_none n)) (not (in_rdf n)) front.0 in

@@ -5,7 +5,7 @@ use Rattle.xml_grammar.specs.Sound.{IsSound}
 use Rattle.xmp_tree.specs.declared.nested.Value.{Value, out-Value}
 use Rattle.xmp_tree.specs.Wf.{IsWfValue, value_depth, IsPlainUri}
 use Rattle.rdf_forms.specs.declared.roles.Role.{Role}
-use Rattle.rdf_forms.specs.Values.{lang_of, value_within}
+use Rattle.rdf_forms.specs.Values.{lang_qualifiers, value_within}
 use Rattle.rdf_forms.specs.Visits.{property_visits}
 use Rattle.rdf_forms.specs.NameRules.{is_type_element}
 use Rattle.rdf_forms.specs.FormRules.{is_property_or_item, is_value_element}
@@ -23,7 +23,7 @@ pub record Formed (depth : ℕ) (e : Element) (v : Value) : Type 0 where
   pub reached : depth ≤ 24
   pub formed : IsWfValue v
   pub shallow : value_depth v ≤ 25 - depth
-  pub bare : IsTrue (is_value_element e) → (out-Value v).quals ≡ lang_of e
+  pub bare : IsTrue (is_value_element e) → (out-Value v).quals ≡ lang_qualifiers e
   pub typed : IsTrue (is_type_element e) → IsPlainUri v
 
 -- a property or item that breaks no rule, nor anything in it, has such a value

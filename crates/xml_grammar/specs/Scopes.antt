@@ -69,7 +69,7 @@ is_unbound bs (Some prefix) = is_none (bound_to bs (Some prefix))
 abbrev pub is_reserved : List ℕ → Bool
 is_reserved space = bytes_eq space xml_space || bytes_eq space xmlns_space
 
--- a declaration that isn't allowed (section 3, the namespace constraints): of the prefix `xmlns`, of `xml` with another
+-- a declaration that isn't allowed (sections 3 and 5, the namespace constraints): of the prefix `xmlns`, of `xml` with another
 -- namespace, of another prefix or the default with a reserved one, of a prefix with nothing
 abbrev pub is_misbound_to : Option (List ℕ) → List ℕ → Bool
 is_misbound_to None space = is_reserved space

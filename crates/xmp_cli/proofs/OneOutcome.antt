@@ -17,7 +17,7 @@ use Rattle.xmp_files.proofs.OnePlan.{one_planned}
 use Rattle.xmp_cli.specs.Commands.{Command, Get, Tree, Set, Apply, Patch, Reconcile, Check, Demo, Sync}
 use Rattle.xmp_cli.specs.Answer.{Change, Outcome, IsOutcome, IsShown, IsEditing, HasPlan, IsOpenPlan, IsEditPlan, put_out, exchange_in, reported, shown, seen}
 use Rattle.xmp_cli.specs.Edits.{Source, Given, Lines, edited_of}
-use Rattle.xmp_cli.specs.Order.{get_text, tree_text}
+use Rattle.xmp_cli.specs.Order.{get_text, shown_tree}
 
 shown_once : (view : Meaning → Result (List ℕ) Fault) (file : Option (List ℕ)) (a b : Outcome) → IsShown view file a → IsShown view file b → a ≡ b
 shown_once view file a b p q =
@@ -54,7 +54,7 @@ module _ (source : Source) (patch : Bool) (files : Files) where
 pub one_outcome : (command : Option Command) (files : Files) (a b : Outcome) → IsOutcome command files a → IsOutcome command files b → a ≡ b
 one_outcome None files a b p q = p ∙ sym q
 one_outcome (Some (Get file path)) files a b p q = shown_once (get_text path) (get files file) a b p q
-one_outcome (Some (Tree file)) files a b p q = shown_once tree_text (get files file) a b p q
+one_outcome (Some (Tree file)) files a b p q = shown_once shown_tree (get files file) a b p q
 one_outcome (Some (Set file out path value)) files a b p q = one_editing (Given path value) false files (put_out out) file a b p q
 one_outcome (Some (Apply file out script)) files a b p q = one_editing (Lines script) false files (put_out out) file a b p q
 one_outcome (Some (Patch file script)) files a b p q = one_editing (Lines script) true files (exchange_in file) file a b p q

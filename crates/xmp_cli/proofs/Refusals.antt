@@ -35,7 +35,7 @@ use Rattle.xmp_cli.specs.declared.status.Status.TheVariants.{Refused}
 use Rattle.xmp_cli.specs.declared.views.View.{View}
 use Rattle.xmp_cli.specs.declared.views.View.TheVariants as views
 use Rattle.xmp_cli.specs.Commands.{Command}
-use Rattle.xmp_cli.specs.Order.{path_step, shape_text, value_text, get_text, tree_text}
+use Rattle.xmp_cli.specs.Order.{path_step, shape_text, value_text, get_text, shown_tree}
 use Rattle.xmp_cli.specs.Run.{IsPacketRefusal, IsExtendedRefusal, too_long, gap, faulty, twice, IsFileRefusal, IsPathRefusal, IsRefusal, Refuses}
 use Rattle.xmp_cli.specs.Steps.{view_of, shows}
 
@@ -92,8 +92,8 @@ stopped : (step : Result (List ℕ) Fault) (fault : Fault) → Stops step → st
 stopped (Ok text) fault h e = absurd (let bad : Ok text ≡ Err fault = e in cc)
 stopped (Err f) fault h e = subst IsPathRefusal (same_error f fault e) h
 
-tree_gives : (m : Meaning) (fault : Fault) → tree_text m ≡ Err fault → ⊥
-unfolding tree_text
+tree_gives : (m : Meaning) (fault : Fault) → shown_tree m ≡ Err fault → ⊥
+unfolding shown_tree
 tree_gives m fault e = cc
 
 view_refuses : (file : List ℕ) (view : View) (t : DeskState) (m : Meaning) (fault : Fault) → view_of view m ≡ Err fault

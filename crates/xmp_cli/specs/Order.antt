@@ -57,5 +57,5 @@ unfoldable pub get_text : List ℕ → Meaning → Result (List ℕ) Fault
 get_text path meaning = followed (path_step (path_of meaning.hints path)) (λ place. value_text meaning place (at meaning.tree place))
 
 -- what `tree` shows: the lines of the tree, with the prefixes of the text of every property without a note
-unfoldable pub tree_text : Meaning → Result (List ℕ) Fault
-tree_text meaning = Ok (lines (prefixes meaning.tree meaning.hints (whole meaning.tree)) meaning.tree)
+unfoldable pub shown_tree : Meaning → Result (List ℕ) Fault
+shown_tree meaning = Ok (lines (prefixes meaning.tree meaning.hints (whole meaning.tree)) meaning.tree)

@@ -9,7 +9,7 @@ use Rattle.xmp_files.specs.declared.opening.Opened.{Opened}
 use Rattle.xmp_files.specs.Keeping.{Kept}
 use Rattle.xmp_files.specs.Opening.{IsOpened}
 use Rattle.xmp_cli.specs.Commands.{Command, Get, Tree as TreeOf}
-use Rattle.xmp_cli.specs.Order.{get_text, tree_text}
+use Rattle.xmp_cli.specs.Order.{get_text, shown_tree}
 use Rattle.xmp_cli.specs.Answer.{seen}
 use Rattle.xmp_cli.specs.declared.views.View.{View}
 use Rattle.xmp_cli.specs.declared.views.View.TheVariants.{Value, Tree}
@@ -17,7 +17,7 @@ use Rattle.xmp_cli.specs.declared.views.View.TheVariants.{Value, Tree}
 -- what a view shows of a meaning
 abbrev pub view_of : View → Meaning → Result (List ℕ) Fault
 view_of (Value path) meaning = get_text path.now meaning
-view_of Tree meaning = tree_text meaning
+view_of Tree meaning = shown_tree meaning
 
 -- the command that shows a view of a file
 abbrev pub shows : List ℕ → View → Command

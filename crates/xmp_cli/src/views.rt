@@ -3,7 +3,7 @@ ghost use Rattle.std.specs.Prelude.{◌≡◌, ◌++◌, codes, IfOk};
 ghost use Rattle.std.specs.Option.{option_copied};
 ghost use Rattle.xmp_write.specs.Prefixes.{prefixes};
 ghost use Rattle.xmp_write.specs.ValueLines.{lines_at};
-ghost use Rattle.xmp_cli.specs.Order.{get_text, tree_text, place_text, value_text, whole};
+ghost use Rattle.xmp_cli.specs.Order.{get_text, shown_tree, place_text, value_text, whole};
 ghost use Rattle.xmp_cli.specs.Steps.{view_of};
 ghost use Rattle.xmp_values.specs.Stops.{fault_of, Gives};
 
@@ -92,9 +92,9 @@ fn place_lines(alloc: Global, tree: &Tree<'_>, hints: &Hints, path: &Path) -> Re
 }
 
 /// The lines of the tree.
-#[tactic(auto, unfolding(crate::specs::Order::tree_text))]
+#[tactic(auto, unfolding(crate::specs::Order::shown_tree))]
 fn tree_lines(alloc: Global, meaning: &Meaning<'_>) -> Result<Bytes, Memory>
-    ensures { IfOk result (λ text. tree_text meaning.now ≡ Ok text) }
+    ensures { IfOk result (λ text. shown_tree meaning.now ≡ Ok text) }
 {
     let form = Form::whole(&meaning.tree);
     let prefixes = Prefixes::of(alloc, &meaning.tree, &meaning.hints, &form)?;

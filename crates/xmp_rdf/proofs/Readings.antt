@@ -18,7 +18,7 @@ use Rattle.rdf_forms.specs.declared.roles.Holder.{Holder}
 use Rattle.rdf_forms.specs.Parts.{element_at, elements_in, elements_of, name_of}
 use Rattle.rdf_forms.specs.Forms.{ByMembers, ByContainer, ByNode, form_of}
 use Rattle.rdf_forms.specs.Visits.{Visit, visit, members_holder, node_holder, member_depth, member_visits, item_visits, form_visits, property_visits}
-use Rattle.rdf_forms.specs.Values.{plain, lang_of, type_of, kind_of, by_members, node_members, element_member, formed, value_within}
+use Rattle.rdf_forms.specs.Values.{plain, lang_qualifiers, type_of, kind_of, by_members, node_members, element_member, formed, value_within}
 use Rattle.std.specs.Option.{option_or}
 use Rattle.rdf_forms.specs.Rules.{fault_at, first_fault}
 use Rattle.rdf_forms.proofs.ChildLaws.{element_at-Element, element_at-Text}
@@ -42,36 +42,36 @@ within-some (suc levels) role depth e some =
     ∙ ap (λ l. and_then (checked role depth e) (λ _. read_form l depth e (form_of e))) (sym next)
 
 pub form-members : (levels depth : ℕ) (e : Element) →
-    read_form levels depth e ByMembers ≡ and_then (read_members levels (members_holder e) depth [] (elements_of e)) (λ ms. Ok (by_members (lang_of e) [] ms))
+    read_form levels depth e ByMembers ≡ and_then (read_members levels (members_holder e) depth [] (elements_of e)) (λ ms. Ok (by_members (lang_qualifiers e) [] ms))
 unfolding read_form read_all
 form-members levels depth e =
     unless-made (first_fault (member_visits (property_visits levels) (members_holder e) depth (elements_of e)))
-    (map (element_member (value_within levels)) (elements_of e)) (by_members (lang_of e) [])
+    (map (element_member (value_within levels)) (elements_of e)) (by_members (lang_qualifiers e) [])
 
 -- after the rules of a container itself
 abbrev pub array_of : ℕ → ℕ → Element → Element → Result Value Fault
-array_of levels depth e c = and_then (read_items levels depth [] (elements_of c)) (λ vs. Ok (value (Array (kind_of (name_of c)) vs) (lang_of e)))
+array_of levels depth e c = and_then (read_items levels depth [] (elements_of c)) (λ vs. Ok (value (Array (kind_of (name_of c)) vs) (lang_qualifiers e)))
 
 pub form-container : (levels depth : ℕ) (e c : Element) → read_form levels depth e (ByContainer c) ≡ and_then (checked roles.Container depth c) (λ _. array_of levels depth e c)
 unfolding read_form read_all checked
 form-container levels depth e c =
     let inside = first_fault (item_visits (property_visits levels) depth (elements_of c)) in
     let items = map (value_within levels) (elements_of c) in
-    let array = λ (vs : List Value). value (Array (kind_of (name_of c)) vs) (lang_of e) in
+    let array = λ (vs : List Value). value (Array (kind_of (name_of c)) vs) (lang_qualifiers e) in
     unless-and_then (fault_at (visit roles.Container depth c)) inside tt (array items)
     ∙ ap (λ (r : Result Value Fault). and_then (checked roles.Container depth c) (λ _. r)) (unless-made inside items array)
 
 -- after the rules of a node itself
 abbrev pub node_of : ℕ → ℕ → Element → Element → Result Value Fault
 node_of levels depth e n =
-    and_then (read_members levels (node_holder n) depth (node_members n) (elements_of n)) (λ ms. Ok (by_members (lang_of e) (type_of (name_of n)) ms))
+    and_then (read_members levels (node_holder n) depth (node_members n) (elements_of n)) (λ ms. Ok (by_members (lang_qualifiers e) (type_of (name_of n)) ms))
 
 pub form-node : (levels depth : ℕ) (e n : Element) → read_form levels depth e (ByNode n) ≡ and_then (checked roles.Node depth n) (λ _. node_of levels depth e n)
 unfolding read_form read_all checked
 form-node levels depth e n =
     let inside = first_fault (member_visits (property_visits levels) (node_holder n) depth (elements_of n)) in
     let members = node_members n ++ map (element_member (value_within levels)) (elements_of n) in
-    let made = by_members (lang_of e) (type_of (name_of n)) in
+    let made = by_members (lang_qualifiers e) (type_of (name_of n)) in
     unless-and_then (fault_at (visit roles.Node depth n)) inside tt (made members)
     ∙ ap (λ (r : Result Value Fault). and_then (checked roles.Node depth n) (λ _. r)) (unless-made inside members made)
 

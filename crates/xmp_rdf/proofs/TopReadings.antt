@@ -14,8 +14,8 @@ use Rattle.xml_grammar.specs.declared.elements.Child.{Child}
 use Rattle.xml_grammar.specs.declared.elements.Child.TheVariants as child
 use Rattle.rdf_forms.specs.declared.roles.Role.TheVariants as roles
 use Rattle.rdf_forms.specs.declared.roles.Holder.TheVariants as holders
-use Rattle.rdf_forms.specs.Words.{is_own}
-use Rattle.rdf_forms.specs.Parts.{name_of, place_of, elements_in, elements_of, own_attributes}
+use Rattle.rdf_forms.specs.Words.{is_member_name}
+use Rattle.rdf_forms.specs.Parts.{name_of, place_of, elements_in, elements_of, property_attributes}
 use Rattle.rdf_forms.specs.Visits.{Visit, member_depth, member_visits, property_visits, top_visits}
 use Rattle.rdf_forms.specs.Values.{attribute_member, value_within}
 use Rattle.xmp_tree.specs.declared.nested.Value.{Value}
@@ -69,7 +69,7 @@ tops-none levels before earlier = ap Ok (append-nil before)
 
 -- the property attributes of a top
 abbrev pub attributes_placed : Element → List Placed
-attributes_placed t = map (λ (a : Attribute). (place_of t, attribute_member a)) (own_attributes t)
+attributes_placed t = map (λ (a : Attribute). (place_of t, attribute_member a)) (property_attributes t)
 
 pub tops-one : (levels : ℕ) (before : List Placed) (earlier : List Element) (t : Element) →
     read_tops levels before earlier (t ∷ []) ≡ and_then (checked_top earlier t) (λ _. read_placed levels (before ++ attributes_placed t) (elements_of t))
@@ -173,18 +173,18 @@ tops-loop-stop levels before ps earlier cs i c lt there so_far f halts =
 
 -- what was read before, and the property attributes among the first ones
 abbrev pub first_attributes : Element → List Placed → List Attribute → ℕ → List Placed
-first_attributes t before xs i = before ++ map (λ (a : Attribute). (place_of t, attribute_member a)) (filter (λ (a : Attribute). is_own a.name) (take i xs))
+first_attributes t before xs i = before ++ map (λ (a : Attribute). (place_of t, attribute_member a)) (filter (λ (a : Attribute). is_member_name a.name) (take i xs))
 
 pub attributes-more : (t : Element) (before : List Placed) (xs : List Attribute) (i : ℕ) (a : Attribute) → i < length xs → a ≡ get_or xs i a →
-    (is_own a.name ≡ true → first_attributes t before xs (i + 1) ≡ first_attributes t before xs i ++ (place_of t, attribute_member a) ∷ [])
-    × (is_own a.name ≡ false → first_attributes t before xs (i + 1) ≡ first_attributes t before xs i)
+    (is_member_name a.name ≡ true → first_attributes t before xs (i + 1) ≡ first_attributes t before xs i ++ (place_of t, attribute_member a) ∷ [])
+    × (is_member_name a.name ≡ false → first_attributes t before xs (i + 1) ≡ first_attributes t before xs i)
 attributes-more t before xs i a lt here = (λ is. split ∙ last true is, λ is. split ∙ last false is)
   where
     placed : Attribute → Placed
     placed b = (place_of t, attribute_member b)
 
     own : Attribute → Bool
-    own b = is_own b.name
+    own b = is_member_name b.name
 
     kept : List Attribute
     kept = filter own (take i xs)

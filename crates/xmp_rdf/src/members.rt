@@ -1,11 +1,11 @@
 //! The members that attributes give, and the qualifiers `xml:lang` and `rdf:type`.
 ghost use Rattle.std.specs.Prelude.{◌≡◌, [], ◌∷◌, IfOk, map};
 ghost use Rattle.xmp_tree.specs.Wf.{lang_name, type_name};
-ghost use Rattle.rdf_forms.specs.Parts.{own_attributes};
-ghost use Rattle.rdf_forms.specs.Values.{plain, attribute_member, lang_member, lang_of, type_of, is_node_member, node_members};
+ghost use Rattle.rdf_forms.specs.Parts.{property_attributes};
+ghost use Rattle.rdf_forms.specs.Values.{plain, attribute_member, lang_member, lang_qualifiers, type_of, is_node_member, node_members};
 
 use crate::texts::joined;
-use rdf_forms::{is_own, is_rdf, lang_value};
+use rdf_forms::{is_member_name, is_rdf, lang_value};
 use std::alloc::Global;
 use xml_grammar::{Attribute, Element};
 use xmp_tree::{Member, Members, Shape, Value};
@@ -62,9 +62,9 @@ fn type_name<'p>() -> Name<'p>
 }
 
 /// The qualifier that `xml:lang` gives, if the element has it.
-#[tactic(auto, unfolding(rdf_forms::specs::Values::lang_of))]
-pub fn lang_of<'p>(alloc: Global, element: &Element<'p>) -> Result<Members<'p>, Memory>
-    ensures { IfOk result (λ ms. ms ≡ lang_of element.now) }
+#[tactic(auto, unfolding(rdf_forms::specs::Values::lang_qualifiers))]
+pub fn lang_qualifiers<'p>(alloc: Global, element: &Element<'p>) -> Result<Members<'p>, Memory>
+    ensures { IfOk result (λ ms. ms ≡ lang_qualifiers element.now) }
 {
     match lang_value(element) {
         None => Ok(Members::new(alloc)),
@@ -94,11 +94,11 @@ pub fn type_of<'p>(alloc: Global, name: &Name<'p>) -> Result<Members<'p>, Memory
 
 /// The property attributes as members, in their order.
 pub fn own_members<'p>(alloc: Global, element: &Element<'p>) -> Result<Members<'p>, Memory>
-    ensures { IfOk result (λ ms. ms ≡ map attribute_member (own_attributes element.now)) }
+    ensures { IfOk result (λ ms. ms ≡ map attribute_member (property_attributes element.now)) }
 {
     let mut members = Members::new(alloc);
     for attribute in element.attributes.as_slice() {
-        if is_own(&attribute.name) {
+        if is_member_name(&attribute.name) {
             members.push(attribute_member(alloc, attribute)?)?;
         }
     }
@@ -109,7 +109,7 @@ pub fn own_members<'p>(alloc: Global, element: &Element<'p>) -> Result<Members<'
 fn is_node_member(attribute: &Attribute<'_>) -> bool
     ensures { result ≡ is_node_member attribute.now }
 {
-    is_own(&attribute.name) || is_rdf(b"value".as_slice(), &attribute.name)
+    is_member_name(&attribute.name) || is_rdf(b"value".as_slice(), &attribute.name)
 }
 
 /// The members that the attributes of a node give: property attributes and `rdf:value`.

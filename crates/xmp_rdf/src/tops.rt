@@ -4,7 +4,7 @@ ghost use Rattle.xml_grammar.specs.declared.elements.Element.{Element as Element
 ghost use Rattle.xml_grammar.specs.declared.elements.Attribute.{Attribute as AttributeView};
 ghost use Rattle.xmp_values.specs.Stops.{place_of as told_of, Gives};
 ghost use Rattle.rdf_forms.specs.Words.{is_rdf};
-ghost use Rattle.rdf_forms.specs.Parts.{name_of, place_of, elements_in, own_attributes};
+ghost use Rattle.rdf_forms.specs.Parts.{name_of, place_of, elements_in, property_attributes};
 ghost use Rattle.rdf_forms.specs.Values.{attribute_member};
 ghost use Rattle.rdf_forms.specs.FormViews.{about_in};
 ghost use Rattle.rdf_forms.specs.Meaning.{Placed};
@@ -17,7 +17,9 @@ use crate::abouts::{about_again, first_about};
 use crate::members::attribute_member;
 use crate::parting::Parted;
 use crate::walk::{check, member_depth, property};
-use rdf_forms::{Formed, Holder, Role, about_bytes, broken_top, first_element, is_own, is_rdf};
+use rdf_forms::{
+    Formed, Holder, Role, about_bytes, broken_top, first_element, is_member_name, is_rdf,
+};
 use std::alloc::Global;
 use xml_grammar::{Child, Element};
 use xmp_tree::Member;
@@ -58,10 +60,10 @@ fn add_attributes<'p>(
     parts: &mut Parted<'p>,
     top: &Element<'p>,
 ) -> Result<(), Memory>
-    ensures { (before : List Placed) → parts.old ≡ parts_of before → OnOk result (parts.new ≡ parts_of (before ++ map (λ (a : AttributeView). (place_of top.now, attribute_member a)) (own_attributes top.now))) }
+    ensures { (before : List Placed) → parts.old ≡ parts_of before → OnOk result (parts.new ≡ parts_of (before ++ map (λ (a : AttributeView). (place_of top.now, attribute_member a)) (property_attributes top.now))) }
 {
     for attribute in top.attributes.as_slice() {
-        if is_own(&attribute.name) {
+        if is_member_name(&attribute.name) {
             parts.push(top.at(), attribute_member(alloc, attribute)?)?;
         }
     }

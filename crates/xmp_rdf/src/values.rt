@@ -5,7 +5,7 @@ ghost use Rattle.xmp_tree.specs.Parts.{value};
 ghost use Rattle.xmp_tree.specs.Wf.{value_of};
 ghost use Rattle.rdf_forms.specs.Values.{is_value_member, other_members, kind_of, by_members, by_attributes};
 
-use crate::members::{lang_of, own_members};
+use crate::members::{lang_qualifiers, own_members};
 use rdf_forms::{is_rdf, rdf_value};
 use std::alloc::Global;
 use xml_grammar::Element;
@@ -32,7 +32,7 @@ pub fn kind_of(name: &Name<'_>) -> Kind
 pub fn by_attributes<'p>(alloc: Global, element: &Element<'p>) -> Result<Value<'p>, Memory>
     ensures { IfOk result (λ v. v ≡ by_attributes element.now) }
 {
-    let mut quals = lang_of(alloc, element)?;
+    let mut quals = lang_qualifiers(alloc, element)?;
     let members = own_members(alloc, element)?;
     let shape = if let Some(text) = rdf_value(b"value".as_slice(), element) {
         Shape::Simple(text.try_clone()?)

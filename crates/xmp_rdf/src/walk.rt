@@ -4,14 +4,14 @@ ghost use Rattle.xml_grammar.specs.declared.elements.Element.{out-Element};
 ghost use Rattle.rdf_forms.specs.Parts.{elements_in, own_text};
 ghost use Rattle.rdf_forms.specs.Forms.{ByMembers, ByContainer, ByNode, form_of};
 ghost use Rattle.rdf_forms.specs.Visits.{member_depth};
-ghost use Rattle.rdf_forms.specs.Values.{plain, lang_of};
+ghost use Rattle.rdf_forms.specs.Values.{plain, lang_qualifiers};
 ghost use Rattle.xmp_tree.specs.Parts.{value};
 ghost use Rattle.xmp_tree.specs.declared.nested.Shape.{Simple};
 ghost use Rattle.xmp_values.specs.Stops.{place_of, Gives, Makes};
 ghost use Rattle.xmp_rdf.specs.Reading.{checked, read_within, read_form, read_members, read_items};
 
 use crate::RdfStop;
-use crate::members::{lang_of, node_members, plain, type_of};
+use crate::members::{lang_qualifiers, node_members, plain, type_of};
 use crate::texts::own_text;
 use crate::values::{by_attributes, by_members, kind_of};
 use rdf_forms::{Form, Formed, Holder, Role, broken, is_rdf, members_holder, node_holder};
@@ -54,11 +54,11 @@ fn no_value<'p>(alloc: Global) -> Value<'p>
 
 /// The value by an element's own text.
 fn text_value<'p>(alloc: Global, element: &Element<'p>) -> Result<Value<'p>, Memory>
-    ensures { IfOk result (λ v. v ≡ value (Simple (own_text element.now)) (lang_of element.now)) }
+    ensures { IfOk result (λ v. v ≡ value (Simple (own_text element.now)) (lang_qualifiers element.now)) }
 {
     Ok(Value {
         shape: Shape::Simple(own_text(alloc, element)?),
-        quals: lang_of(alloc, element)?,
+        quals: lang_qualifiers(alloc, element)?,
     })
 }
 
@@ -120,7 +120,7 @@ fn resource_value<'p>(
     let mut members = Members::new(alloc);
     let children = element.children.as_slice();
     add_members(alloc, levels, holder, depth, &mut members, children)?;
-    let lang = lang_of(alloc, element)?;
+    let lang = lang_qualifiers(alloc, element)?;
     Ok(by_members(lang, Members::new(alloc), members)?)
 }
 
@@ -141,7 +141,7 @@ fn node_value<'p>(
     let mut members = node_members(alloc, node)?;
     let children = node.children.as_slice();
     add_members(alloc, levels, holder, depth, &mut members, children)?;
-    let lang = lang_of(alloc, element)?;
+    let lang = lang_qualifiers(alloc, element)?;
     let types = type_of(alloc, &node.name)?;
     Ok(by_members(lang, types, members)?)
 }
@@ -169,7 +169,7 @@ fn container_value<'p>(
     )?;
     Ok(Value {
         shape: Shape::Array(kind_of(&container.name), items),
-        quals: lang_of(alloc, element)?,
+        quals: lang_qualifiers(alloc, element)?,
     })
 }
 

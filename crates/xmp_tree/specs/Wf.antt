@@ -24,12 +24,12 @@ abbrev pub NamesDiffer : List Member → Type 0
 NamesDiffer ms = AllPairs (λ m n. name_of m ≢ name_of n) ms
 
 -- 2. A local part is an XML name without colon (6.2; Namespaces in XML 1.0, NCName).
--- 7. All text is made of XML's Chars, a namespace too (6.3.2; XML 1.0, production 2).
+-- 3. All text is made of XML's Chars, a namespace too (6.3.2; XML 1.0, production 2).
 pub record IsNamed (n : Name) : Type 0 where
   pub chars : IsCharText n.space
   pub local : IsName n.local
 
--- 3. A namespace isn't empty, and it is none of RDF's, XML's and that of `xmlns`, whose names
+-- 4. A namespace isn't empty, and it is none of RDF's, XML's and that of `xmlns`, whose names
 -- have a meaning of their own in RDF/XML (6.2, 7.2).
 pub record IsOwnSpace (space : List ℕ) : Type 0 where
   pub some : space ≢ []
@@ -73,15 +73,15 @@ pub record AreFields (ms : List Member) : Type 0 where
 
 -- What a qualifier keeps by itself (6.4): `xml:lang` and `rdf:type` alone may have a namespace
 -- that isn't their own.
--- 4. `xml:lang` is a simple text with no qualifier.
--- 5. `rdf:type` is a URI with no qualifier.
+-- 5. `xml:lang` is a simple text with no qualifier.
+-- 6. `rdf:type` is a URI with no qualifier.
 pub record IsQualifier (m : Member) : Type 0 where
   pub own : name_of m ≢ lang_name → name_of m ≢ type_name → IsOwnSpace (name_of m).space
   pub lang : name_of m ≡ lang_name → IsPlain (value_of m)
   pub kind : name_of m ≡ type_name → IsPlainUri (value_of m)
 
 -- What the qualifiers of a value keep together (6.4).
--- 4. `xml:lang` is the first of its list.
+-- 5. `xml:lang` is the first of its list.
 pub record AreQualifiers (ms : List Member) : Type 0 where
   pub apart : NamesDiffer ms
   pub each : All IsQualifier ms
@@ -92,7 +92,7 @@ abbrev mutual
   pub IsWfValue : Value → Type 0
   IsWfValue (Value' shape n quals) = IsWfShape shape × (AreWfMembers quals × AreQualifiers (items-the_row-Member _ quals))
 
-  -- 7. All text is made of XML's Chars.
+  -- 3. All text is made of XML's Chars.
   pub IsWfShape : Shape → Type 0
   IsWfShape (Simple text) = IsCharText text
   IsWfShape (Uri text) = IsCharText text
@@ -154,7 +154,7 @@ unfoldable pub note_name : Name
 note_name = record { space = codes "http://ns.adobe.com/xmp/note/"; local = codes "HasExtendedXMP" }
 
 -- A well-formed tree.
--- 6. The note isn't a property: it belongs to the file and not to the tree.
+-- 7. The note isn't a property: it belongs to the file and not to the tree.
 -- 8. The depth is at most 24, a limit of this project's own.
 pub record Wf (t : Parts) : Type 0 where
   pub about : IsCharText t.about

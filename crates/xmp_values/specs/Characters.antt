@@ -1,4 +1,4 @@
--- The characters of XML 1.0 (fifth edition), productions 2 to 4a, the names without the colon,
+-- The characters of XML 1.0 (fifth edition), productions 2 to 5, the names without the colon,
 -- which Namespaces in XML 1.0 takes out of them (NCName).
 use Rattle.std.specs.Prelude.{ℕ, Bool, false, nat_le, ◌&&◌, ◌||◌, ◌≡◌, IsTrue, All, List, [], ◌∷◌, encode_utf8_all}
 use Rattle.std.specs.List.{list_all}

@@ -1,4 +1,5 @@
--- What a call returned, beside what a definition gives. Only running out of memory, and a failure of a device, are free.
+-- What a call returned, beside what a definition gives. A stop says why a call returned no value: a fault, which is a broken
+-- rule with its place, or out of memory, or a device that failed. Only the last two are free.
 use Rattle.std.specs.Prelude.{◌≡◌, ℕ, Option, Some, None, Result, Ok, Err, IfSome}
 use Rattle.xmp_values.specs.declared.rules.Rule.{Rule}
 use Rattle.xmp_values.specs.declared.faults.Fault.{Fault}

@@ -1,4 +1,4 @@
-//! The characters of XML 1.0 (fifth edition), productions 2 to 4a, the names without the colon.
+//! The characters of XML 1.0 (fifth edition), productions 2 to 5, the names without the colon.
 ghost use Rattle.std.specs.Prelude.{◌≡◌, ◌≤◌, ◌↔◌, IsTrue, length, chars};
 ghost use Rattle.std.specs.List.{list_all, prefix_len};
 ghost use Rattle.xmp_values.specs.Characters.{is_char, is_blank, is_name_start, is_name_char, is_name_of, IsCharText, IsName};

@@ -11,7 +11,7 @@ use Rattle.xmp_tree.specs.declared.nested.Member.{Member, Member'}
 use Rattle.xmp_tree.specs.declared.nested.Shape.{Shape, Simple, Uri, Struct', Array', Row_of-Value, end_of-Value, more_of-Value}
 use Rattle.xmp_write.specs.Prefixes.{written_prefix, spelled}
 use Rattle.xmp_write.specs.Written.{value_spaces, shape_spaces, member_spaces, members_spaces, items_spaces}
-use Rattle.xmp_write.specs.Text.{is_tag, lang_in, has_others, lang_text, parse_text, element_text, kind_name, value_text, shape_text, member_text, members_text, others_text, items_text, lines_text}
+use Rattle.xmp_write.specs.Text.{is_lang_name, lang_in, has_others, lang_text, parse_text, element_text, kind_name, value_text, shape_text, member_text, members_text, others_text, items_text, lines_text}
 
 -- what holds of a list holds of its front and of its end
 pub All-front : {X : Type 0} (P : X → Type 0) (xs ys : List X) → All P (xs ++ ys) → All P xs
@@ -64,8 +64,8 @@ module _ (ps qs : List Hint) where
     others_alike (more_of-Member (Member' name value) rest) same =
         let more = members_alike rest (alike_end (member_spaces (Member' name value)) (members_spaces rest) same) in
         let first = member_alike (Member' name value) (alike_front (member_spaces (Member' name value)) (members_spaces rest) same) in
-        ap (λ text. cond (is_tag name) text (value_text ps (spelled ps name) value ++ text)) more
-        ∙ ap (λ text. cond (is_tag name) (members_text qs rest) (text ++ members_text qs rest)) first
+        ap (λ text. cond (is_lang_name name) text (value_text ps (spelled ps name) value ++ text)) more
+        ∙ ap (λ text. cond (is_lang_name name) (members_text qs rest) (text ++ members_text qs rest)) first
 
     items_alike : {n : _} (row : Row_of-Value n) → AreAlike (items_spaces row) → items_text ps row ≡ items_text qs row
     items_alike end_of-Value same = refl

@@ -9,7 +9,7 @@ use Rattle.xmp_tree.specs.declared.nested.Member.{Member, Member', outs-Member'}
 use Rattle.xmp_tree.specs.declared.nested.Kind.{Kind}
 use Rattle.xmp_tree.specs.Wf.{name_of, value_of}
 use Rattle.xmp_write.specs.Prefixes.{spelled}
-use Rattle.xmp_write.specs.Text.{is_tag, tag_in, simple_in, lang_in, is_more, has_others, lang_text, parse_text, element_text, kind_name, value_text, shape_text, member_text, members_text, others_text, items_text}
+use Rattle.xmp_write.specs.Text.{is_lang_name, tag_in, simple_in, lang_in, is_more, has_others, lang_text, parse_text, element_text, kind_name, value_text, shape_text, member_text, members_text, others_text, items_text}
 use Rattle.xmp_write.specs.Placing.{simple_layer, lang_of, others_of}
 use Rattle.xmp_write.proofs.Levels.{fields_of, items_of}
 
@@ -37,7 +37,7 @@ tag_in-out (Value' shape n quals) = rw (outs-Value' shape n quals) (simple_in-ou
 
 lang_in-row : (n : _) (row : Row_of-Member n) → lang_in row ≡ lang_of (items-the_row-Member n row)
 lang_in-row n end_of-Member = refl
-lang_in-row n (more_of-Member (Member' name value) rest) = rw (name_of, value_of, outs-Member' name value) (ap (λ text. cond (is_tag name) (Some text) None) (tag_in-out value))
+lang_in-row n (more_of-Member (Member' name value) rest) = rw (name_of, value_of, outs-Member' name value) (ap (λ text. cond (is_lang_name name) (Some text) None) (tag_in-out value))
 
 is_more-row : (n : _) (row : Row_of-Member n) → is_more row ≡ is_some_member (items-the_row-Member n row)
 is_more-row n end_of-Member = refl
@@ -51,7 +51,7 @@ has_others-row : (n : _) (row : Row_of-Member n) → has_others row ≡ is_some_
 has_others-row n end_of-Member = refl
 has_others-row n (more_of-Member (Member' name value) rest) =
     rw (name_of, outs-Member' name value)
-    (ap (λ more. cond (is_tag name) more true) (is_more-row _ rest) ∙ some_choice (is_tag name) (Member' name value) (items-the_row-Member _ rest))
+    (ap (λ more. cond (is_lang_name name) more true) (is_more-row _ rest) ∙ some_choice (is_lang_name name) (Member' name value) (items-the_row-Member _ rest))
 
 module _ (ps : List Hint) where
   members_text-row : (n : _) (row : Row_of-Member n) → members_text ps row ≡ flat_map (member_text ps) (items-the_row-Member n row)
@@ -70,7 +70,7 @@ module _ (ps : List Hint) where
   others_text-row n end_of-Member = refl
   others_text-row n (more_of-Member (Member' name value) rest) =
       rw (name_of, outs-Member' name value)
-      (ap (λ text. cond (is_tag name) text (value_text ps (spelled ps name) value ++ text)) (members_text-row _ rest) ∙ text_choice (is_tag name) (Member' name value) (items-the_row-Member _ rest))
+      (ap (λ text. cond (is_lang_name name) text (value_text ps (spelled ps name) value ++ text)) (members_text-row _ rest) ∙ text_choice (is_lang_name name) (Member' name value) (items-the_row-Member _ rest))
 
   -- a value without qualifiers besides `xml:lang`, and one with others
   abbrev pub plain_text : List ℕ → Value → List ℕ

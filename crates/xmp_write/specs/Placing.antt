@@ -10,7 +10,7 @@ use Rattle.xmp_tree.specs.declared.nested.Shape.{Shape, Shape-F, out-Shape}
 use Rattle.xmp_tree.specs.declared.nested.Shape.TheOpen as layer
 use Rattle.xmp_tree.specs.Wf.{name_of, value_of}
 use Rattle.xmp_write.specs.declared.placing.Spelled.{Spelled}
-use Rattle.xmp_write.specs.Text.{is_tag, text_byte, quoted_byte}
+use Rattle.xmp_write.specs.Text.{is_lang_name, text_byte, quoted_byte}
 
 -- A text put at a place: as much of it as the slice has room for, and the place after it, or the greatest u64.
 pub record Puts (old new : List ℕ) (at after : ℕ) (text : List ℕ) : Type 0 where
@@ -39,12 +39,12 @@ simple_layer (layer.Array kind items) = []
 
 abbrev pub has_lang : List Member → Bool
 has_lang [] = false
-has_lang (m ∷ ms) = is_tag (name_of m)
+has_lang (m ∷ ms) = is_lang_name (name_of m)
 
 abbrev pub lang_of : List Member → Option (List ℕ)
 lang_of [] = None
-lang_of (m ∷ ms) = if is_tag (name_of m) then Some (simple_layer (out-Shape (out-Value (value_of m)).shape)) else None
+lang_of (m ∷ ms) = if is_lang_name (name_of m) then Some (simple_layer (out-Shape (out-Value (value_of m)).shape)) else None
 
 abbrev pub others_of : List Member → List Member
 others_of [] = []
-others_of (m ∷ ms) = if is_tag (name_of m) then ms else m ∷ ms
+others_of (m ∷ ms) = if is_lang_name (name_of m) then ms else m ∷ ms

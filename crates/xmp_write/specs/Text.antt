@@ -38,8 +38,8 @@ abbrev pub quoted_escaped : List ℕ → List ℕ
 quoted_escaped = flat_map quoted_byte
 
 -- the name of the qualifier `xml:lang`
-abbrev pub is_tag : Name → Bool
-is_tag name = bytes_eq name.space xml_space && bytes_eq name.local (codes "lang")
+abbrev pub is_lang_name : Name → Bool
+is_lang_name name = bytes_eq name.space xml_space && bytes_eq name.local (codes "lang")
 
 abbrev pub simple_in : Shape → List ℕ
 simple_in (Simple text) = text
@@ -53,7 +53,7 @@ tag_in (Value' shape n quals) = simple_in shape
 -- the text of the qualifier `xml:lang`, which stands first where it is
 abbrev pub lang_in : {m : _} → Row_of-Member m → Option (List ℕ)
 lang_in end_of-Member = None
-lang_in (more_of-Member (Member' name value) rest) = if is_tag name then Some (tag_in value) else None
+lang_in (more_of-Member (Member' name value) rest) = if is_lang_name name then Some (tag_in value) else None
 
 abbrev pub is_more : {m : _} → Row_of-Member m → Bool
 is_more end_of-Member = false
@@ -62,7 +62,7 @@ is_more (more_of-Member member rest) = true
 -- whether there are qualifiers besides `xml:lang`
 abbrev pub has_others : {m : _} → Row_of-Member m → Bool
 has_others end_of-Member = false
-has_others (more_of-Member (Member' name value) rest) = if is_tag name then is_more rest else true
+has_others (more_of-Member (Member' name value) rest) = if is_lang_name name then is_more rest else true
 
 -- an attribute after a space
 abbrev pub attribute_text : List ℕ → List ℕ → List ℕ
@@ -113,7 +113,7 @@ abbrev mutual
   pub others_text : {m : _} → List Hint → Row_of-Member m → List ℕ
   others_text ps end_of-Member = []
   others_text ps (more_of-Member (Member' name value) rest) =
-      if is_tag name then members_text ps rest else value_text ps (spelled ps name) value ++ members_text ps rest
+      if is_lang_name name then members_text ps rest else value_text ps (spelled ps name) value ++ members_text ps rest
 
   pub items_text : {m : _} → List Hint → Row_of-Value m → List ℕ
   items_text ps end_of-Value = []

@@ -5,7 +5,7 @@ ghost use Rattle.std.specs.Option.{option_copied};
 ghost use Rattle.xmp_tree.specs.declared.nested.Value.{out-Value};
 ghost use Rattle.xmp_tree.specs.declared.nested.Shape.{out-Shape};
 ghost use Rattle.xmp_write.specs.Prefixes.{spelled};
-ghost use Rattle.xmp_write.specs.Text.{is_tag, value_text, shape_text, member_text, element_text, empty_text, attribute_text, text_escaped, lang_text, parse_text, kind_name};
+ghost use Rattle.xmp_write.specs.Text.{is_lang_name, value_text, shape_text, member_text, element_text, empty_text, attribute_text, text_escaped, lang_text, parse_text, kind_name};
 ghost use Rattle.xmp_write.specs.Placing.{Puts, spelled_name, simple_layer, has_lang, lang_of, others_of};
 
 use crate::placing::{
@@ -17,8 +17,8 @@ use xmp_tree::{Kind, Member, Shape, Value};
 use xmp_values::{Name, is_xml_namespace};
 
 /// Whether the name is `xml:lang`, which is written as an attribute.
-fn is_tag(name: &Name<'_>) -> bool
-    ensures { result ≡ is_tag name.now }
+fn is_lang_name(name: &Name<'_>) -> bool
+    ensures { result ≡ is_lang_name name.now }
 {
     is_xml_namespace(name.space.bytes()) && name.local.bytes() == b"lang".as_slice()
 }
@@ -38,7 +38,7 @@ fn has_lang(quals: &[Member<'_>]) -> bool
     ensures { result ≡ has_lang quals.now }
 {
     match quals.first() {
-        Some(member) => is_tag(&member.name),
+        Some(member) => is_lang_name(&member.name),
         None => false,
     }
 }

@@ -1,6 +1,6 @@
 use Rattle.std.proofs.Common.{◌∙◌, Bool, map, ap, sym, subst}
 use Rattle.std.proofs.lemmas.Result.{IfOk-weaker}
-use Rattle.rdf_forms.specs.Parts.{name_of, elements_of, own_attributes}
+use Rattle.rdf_forms.specs.Parts.{name_of, elements_of, property_attributes}
 use Rattle.rdf_forms.specs.MemberRules.{attribute_names, member_names}
 use Rattle.rdf_forms.specs.Entering.{entered, clashes, Enters, IsEntered}
 use Rattle.rdf_forms.proofs.EnteredLists.{entered-append, enters_more, clash_before}
@@ -11,7 +11,7 @@ unfolding member_names
 returns c =
     let those = c.args.seen.now in
     let without = c.args.without_value in
-    let attributes = attribute_names (own_attributes c.args.element.now) in
+    let attributes = attribute_names (property_attributes c.args.element.now) in
     let elements = map name_of (elements_of c.args.element.now) in
     let set = c.enter_attributes.new.seen in
     let so_far : IsEntered those (entered without attributes) set = subst (Enters those (entered without attributes) set) c.if-not-branch.false c.in_ok-enter_attributes.ensures in
@@ -27,7 +27,7 @@ unfolding member_names
 returns-then-not-branch c =
     let those = c.args.seen.now in
     let without = c.args.without_value in
-    let attributes = attribute_names (own_attributes c.args.element.now) in
+    let attributes = attribute_names (property_attributes c.args.element.now) in
     let elements = map name_of (elements_of c.args.element.now) in
     let set = c.enter_attributes.new.seen in
     ap (λ ns. clashes ns those) (entered-append without attributes elements)

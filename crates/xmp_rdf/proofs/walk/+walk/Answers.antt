@@ -9,7 +9,7 @@ use Rattle.rdf_forms.specs.declared.roles.Holder.{Holder}
 use Rattle.rdf_forms.specs.Parts.{elements_in, elements_of, name_of}
 use Rattle.rdf_forms.specs.Forms.{ByMembers, ByContainer, ByNode, form_of}
 use Rattle.rdf_forms.specs.Visits.{members_holder, node_holder}
-use Rattle.rdf_forms.specs.Values.{lang_of, type_of, kind_of, by_members, node_members, element_member, value_within}
+use Rattle.rdf_forms.specs.Values.{lang_qualifiers, type_of, kind_of, by_members, node_members, element_member, value_within}
 use Rattle.xmp_values.specs.Stops.{place_of, Gives}
 use Rattle.xmp_rdf.specs.Reading.{checked, read_within, read_form, read_members, read_items, visits_in, visits_at}
 use Rattle.xmp_rdf.proofs.Exits.{exit, exit_made}
@@ -48,7 +48,7 @@ resource_value-returns-in_err-add_members t c =
     let step : read c.members_holder-holder.result c.new-members.result c.as_slice-children.result.now ≡ read_members levels (members_holder e) depth [] (elements_of e) =
     λ i. read (c.members_holder-holder.ensures i) (c.new-members.ensures i) (c.as_slice-children.ensures i) in
     exit c.from_residual.result c.in_err-add_members.field-0.0 (read c.members_holder-holder.result c.new-members.result c.as_slice-children.result.now) (read_form levels depth e ByMembers) c.from_residual.ensures.1 c.in_err-add_members.ensures
-    (λ f halts. form-members levels depth e ∙ and_then-err _ f (λ ms. Ok (by_members (lang_of e) [] ms)) (sym step ∙ halts))
+    (λ f halts. form-members levels depth e ∙ and_then-err _ f (λ ms. Ok (by_members (lang_qualifiers e) [] ms)) (sym step ∙ halts))
 
 pub resource_value-returns : goal.resource_value-returns
 resource_value-returns t c =
@@ -59,9 +59,9 @@ resource_value-returns t c =
     let step : read c.members_holder-holder.result c.new-members.result c.as_slice-children.result.now ≡ read_members levels (members_holder e) depth [] (elements_of e) =
     λ i. read (c.members_holder-holder.ensures i) (c.new-members.ensures i) (c.as_slice-children.ensures i) in
     let members = c.add_members.new.members in
-    let made : c.in_ok-by_members.field-0 ≡ by_members (lang_of e) [] members =
+    let made : c.in_ok-by_members.field-0 ≡ by_members (lang_qualifiers e) [] members =
     c.in_ok-by_members.ensures ∙ (λ i. by_members (c.in_ok-lang.ensures i) (c.new.ensures i) members) in
-    form-members levels depth e ∙ and_then-ok _ members (λ ms. Ok (by_members (lang_of e) [] ms)) (sym step ∙ c.in_ok-add_members.ensures) ∙ ap Ok (sym made)
+    form-members levels depth e ∙ and_then-ok _ members (λ ms. Ok (by_members (lang_qualifiers e) [] ms)) (sym step ∙ c.in_ok-add_members.ensures) ∙ ap Ok (sym made)
 
 -- ---- members one after another
 
@@ -163,7 +163,7 @@ container_value-returns-in_err-add_items t c =
     exit c.from_residual-in_err-add_items.result c.in_err-add_items.field-0.0 (read_items levels depth c.new-items.result (elements_in c.as_slice.result.now)) (read_form levels depth e (ByContainer n)) c.from_residual-in_err-add_items.ensures.1
     c.in_err-add_items.ensures
     (λ f halts. form-container levels depth e n ∙ and_then-ok _ c.in_ok-check.field-0 (λ _. array_of levels depth e n) (ap (checked roles.Container depth) (sym c.of.ensures) ∙ c.in_ok-check.ensures)
-    ∙ and_then-err _ f (λ vs. Ok (value (Array (kind_of (name_of n)) vs) (lang_of e))) (sym step ∙ halts))
+    ∙ and_then-err _ f (λ vs. Ok (value (Array (kind_of (name_of n)) vs) (lang_qualifiers e))) (sym step ∙ halts))
 
 pub container_value-returns : goal.container_value-returns
 container_value-returns t c =
@@ -173,8 +173,8 @@ container_value-returns t c =
     let depth = c.args.depth in
     let step : read_items levels depth c.new-items.result (elements_in c.as_slice.result.now) ≡ read_items levels depth [] (elements_of n) = (λ i. read_items levels depth (c.new-items.ensures i) (elements_in (c.as_slice.ensures i))) in
     form-container levels depth e n ∙ and_then-ok _ c.in_ok-check.field-0 (λ _. array_of levels depth e n) (ap (checked roles.Container depth) (sym c.of.ensures) ∙ c.in_ok-check.ensures)
-    ∙ and_then-ok _ c.add_items.new.items (λ vs. Ok (value (Array (kind_of (name_of n)) vs) (lang_of e))) (sym step ∙ c.in_ok-add_items.ensures)
-    ∙ (λ i. Ok (value (Array (sym c.kind_of.ensures i) c.add_items.new.items) (sym c.in_ok-lang_of.ensures i)))
+    ∙ and_then-ok _ c.add_items.new.items (λ vs. Ok (value (Array (kind_of (name_of n)) vs) (lang_qualifiers e))) (sym step ∙ c.in_ok-add_items.ensures)
+    ∙ (λ i. Ok (value (Array (sym c.kind_of.ensures i) c.add_items.new.items) (sym c.in_ok-lang_qualifiers.ensures i)))
 
 pub node_value-returns-in_err-check : goal.node_value-returns-in_err-check
 node_value-returns-in_err-check t c =
@@ -195,7 +195,7 @@ node_value-returns-in_err-add_members t c =
     exit c.from_residual-in_err-add_members.result c.in_err-add_members.field-0.0 (read c.node_holder-holder.result c.in_ok-members.members c.as_slice-children.result.now) (read_form levels depth e (ByNode n))
     c.from_residual-in_err-add_members.ensures.1 c.in_err-add_members.ensures
     (λ f halts. form-node levels depth e n ∙ and_then-ok _ c.in_ok-check.field-0 (λ _. node_of levels depth e n) (ap (checked roles.Node depth) (sym c.of.ensures) ∙ c.in_ok-check.ensures)
-    ∙ and_then-err _ f (λ ms. Ok (by_members (lang_of e) (type_of (name_of n)) ms)) (sym step ∙ halts))
+    ∙ and_then-err _ f (λ ms. Ok (by_members (lang_qualifiers e) (type_of (name_of n)) ms)) (sym step ∙ halts))
 
 pub node_value-returns : goal.node_value-returns
 node_value-returns t c =
@@ -206,8 +206,8 @@ node_value-returns t c =
     let read = λ (h : Holder) (before : List Member) (cs : List Child). read_members levels h depth before (elements_in cs) in
     let step : read c.node_holder-holder.result c.in_ok-members.members c.as_slice-children.result.now ≡ read_members levels (node_holder n) depth (node_members n) (elements_of n) =
     λ i. read (c.node_holder-holder.ensures i) (c.in_ok-members.ensures i) (c.as_slice-children.ensures i) in
-    let made : c.in_ok-by_members.field-0 ≡ by_members (lang_of e) (type_of (name_of n)) c.add_members.new.members =
+    let made : c.in_ok-by_members.field-0 ≡ by_members (lang_qualifiers e) (type_of (name_of n)) c.add_members.new.members =
     c.in_ok-by_members.ensures ∙ (λ i. by_members (c.in_ok-lang.ensures i) (c.in_ok-types.ensures i) c.add_members.new.members) in
     form-node levels depth e n ∙ and_then-ok _ c.in_ok-check.field-0 (λ _. node_of levels depth e n) (ap (checked roles.Node depth) (sym c.of.ensures) ∙ c.in_ok-check.ensures)
-    ∙ and_then-ok _ c.add_members.new.members (λ ms. Ok (by_members (lang_of e) (type_of (name_of n)) ms)) (sym step ∙ c.in_ok-add_members.ensures)
+    ∙ and_then-ok _ c.add_members.new.members (λ ms. Ok (by_members (lang_qualifiers e) (type_of (name_of n)) ms)) (sym step ∙ c.in_ok-add_members.ensures)
     ∙ ap Ok (sym made)
