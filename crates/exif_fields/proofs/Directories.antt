@@ -1,9 +1,8 @@
 -- The entries of a directory, one after another.
-use Rattle.std.proofs.Common.{◌≡◌, ℕ, zero, suc, ◌+◌, ◌-◌, ◌*◌, ◌<◌, ◌≤◌, Bool, true, List, [], ◌∷◌, length, ap, refl, arith, Result, Ok, Err, Option, Some, None}
+use Rattle.std.proofs.Common.{◌≡◌, ℕ, zero, suc, ◌+◌, ◌-◌, ◌<◌, Bool, true, List, [], ◌∷◌, ap, refl, arith, Ok, Err, Option, Some, None}
 use Rattle.xmp_values.specs.declared.rules.Rule.{Rule}
 use Rattle.exif_fields.specs.declared.block.Entry.{Entry}
-use Rattle.exif_fields.specs.declared.raw.Met.{Met}
-use Rattle.exif_fields.specs.Blocks.{entries_from, entry_at, entry_count, lies_in, entries_at, with_entries, with_exif}
+use Rattle.exif_fields.specs.Blocks.{entries_from, entry_at, entries_at, with_entries, with_exif}
 
 pub entries_more : (block : List ℕ) (place n : ℕ) → 0 < n → entries_from block place n ≡ entry_at block place ∷ entries_from block (place + 12) (n - 1)
 entries_more block place zero h = absurd (omega arith)

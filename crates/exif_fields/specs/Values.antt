@@ -1,5 +1,5 @@
 -- The values that were met, the first of each tag.
-use Rattle.std.specs.Prelude.{◌≡◌, ℕ, ◌==◌, ◌&&◌, not, Bool, if◌then◌else◌, List, [], ◌∷◌, ◌++◌, Option, Some, None}
+use Rattle.std.specs.Prelude.{ℕ, ◌==◌, ◌&&◌, not, Bool, if◌then◌else◌, List, [], ◌∷◌, ◌++◌, Option, Some, None}
 use Rattle.std.specs.List.{find, list_any}
 use Rattle.exif_fields.specs.declared.raw.Met.{Met}
 use Rattle.exif_fields.specs.Tags.{is_tag}

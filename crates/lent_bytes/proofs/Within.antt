@@ -1,23 +1,23 @@
 -- Elements of a slice are lent on as an array, and the lender follows the new name.
-use mathlib.Core.Path.{◌≡◌, refl, sym, ap, subst, ◌∙◌}
+use mathlib.Core.Path.{◌≡◌, refl, sym, ap, ◌∙◌}
 use Prim.Native.Nat.{ℕ, zero, suc, ◌+◌, ◌-◌, ◌*◌, ◌^◌, ◌<◌}
-use native.Mathlib.Nat.{suc-mul, mul-suc, zero-mul}
+use native.Mathlib.Nat.{suc-mul, zero-mul}
 use native.Mathlib.Omega.{arith}
 use mathlib.Core.List.{List, [], ◌∷◌, ◌++◌}
-use lib.ListN.{length, get_or, take, drop as drop_list, take-append-drop, length-drop, length-append}
+use lib.ListN.{length, length-append}
 use seplogic.Ra.Ura.{Ura}
 use mir.Syntax.{Lifetime}
 use mir.Val.{Val, vptr}
-use base.Logic.{SProp, ent, sep, ex, emp, guard}
+use base.Logic.{SProp, ent, sep, ex, guard}
 use base.Fraction.{full_share}
 use base.Stored.{coded_list}
 use base.Fml.{Lft, GName, Share, fsep, feq, flft, fobs, fbor}
 use prog.Memory.{capped}
 use prog.Capped.{capped_is}
 use types.Logic.{Logic, sem}
-use types.Kit.{Item, ‵, ◌⊛◌, raw, ◌$◌, ◌∵◌, !, qed, by, move, keep, drop, fsplit, fsplit3, fjoin, updating, await, later, some, use1, group, pick, now, show, done, split3, fjoin3, rewrite, feq_l, feq_i, split, join, use2, given, learn, check}
-use types.SemTy.{SemTy, cells, Arr, Body}
-use types.Follow.{after₂, takes_part, takes_two}
+use types.Kit.{Item, ‵, ◌⊛◌, ◌$◌, ◌∵◌, !, qed, by, move, drop, fsplit, fsplit3, fjoin, updating, await, later, some, use1, group, pick, now, show, done, split3, fjoin3, rewrite, feq_l, feq_i, split, join, use2, given, learn, check}
+use types.SemTy.{cells, Arr, Body}
+use types.Follow.{takes_part}
 use types.Mut.{open_ref}
 use denote.RattleType.{RattleType}
 use denote.Memory.{mem, part_at}
@@ -25,11 +25,10 @@ use denote.ArrayMemory.{Single, Array-apart, Array-whole}
 use denote.Index.{row, whole_in, whole_out}
 use denote.Ref.{MutRef}
 use denote.Array.{Array}
-use denote.Slice.{MutSlice, Room, slice_val}
-use denote.Steps.{nothing}
+use denote.Slice.{MutSlice}
 use denote.Follow.{follows}
-use denote.FollowSlice.{lends_Elements, heres_id, slice_of}
-use borrow.Table.Elements.{at, at_mul, cut_app, join_app, length-take-le}
+use denote.FollowSlice.{heres_id}
+use borrow.Table.Elements.{at, cut_app, join_app}
 
 -- where the product fits a word, the count is zero or the size fits too
 pub uncapped : (i k : ℕ) → i * k < 2 ^ 64 → i * capped k ≡ i * k

@@ -9,7 +9,7 @@ use Rattle.xml_grammar.specs.Sound.{IsSoundAttribute, IsSound}
 use Rattle.xmp_tree.specs.declared.nested.Member.{Member}
 use Rattle.xmp_tree.specs.declared.nested.Value.{Value, out-Value}
 use Rattle.xmp_tree.specs.declared.nested.Shape.{Simple}
-use Rattle.xmp_tree.specs.Wf.{IsOwnSpace, IsWfMember, value_depth, IsPlainUri, type_name}
+use Rattle.xmp_tree.specs.Wf.{IsOwnSpace, value_depth, IsPlainUri}
 use Rattle.xmp_tree.specs.Wf as tree
 use Rattle.xmp_tree.proofs.Made.{name-member, value-member, formed_member, depth-member, depth-simple}
 use Rattle.rdf_forms.specs.declared.roles.Role.{Role}

@@ -1,15 +1,11 @@
 -- Lists of pieces one after the other, and texts that meet.
-use Rattle.std.proofs.Common.{◌≡◌, ℕ, ◌+◌, Bool, true, false, ◌⊎◌, List, [], ◌∷◌, ◌++◌, length, map, None, refl, sym, ap, subst, ◌∙◌, append_assoc, append-nil, length-append, inl, inr, arith}
-use Rattle.std.specs.Prelude.{encode_utf8, encode_utf8_all, IsTrue}
-use Rattle.std.specs.List.{list_all}
+use Rattle.std.proofs.Common.{◌≡◌, ℕ, ◌+◌, List, [], ◌∷◌, ◌++◌, length, None, refl, sym, ap, subst, ◌∙◌, append_assoc, append-nil, length-append, arith}
+use Rattle.std.specs.Prelude.{encode_utf8_all}
 use Rattle.std.proofs.lemmas.Str.{encodes-append}
-use Rattle.xmp_values.specs.Characters.{is_blank}
-use Rattle.xml_grammar.specs.declared.tokens.Mode.{Mode}
-use Rattle.xml_grammar.specs.Pieces.{Piece, Character, Stands}
-use Rattle.xml_grammar.specs.Nesting.{Level, Nest, mode_of, mode_in, enter, is_outside, broken}
-use Rattle.xml_grammar.specs.Trees.{Placed, Event, Opens, Words, Closes, put, put_inside, events_of}
+use Rattle.xml_grammar.specs.Pieces.{Piece, Stands}
+use Rattle.xml_grammar.specs.Nesting.{Level, Nest, mode_of, enter, broken}
+use Rattle.xml_grammar.specs.Trees.{Placed, Event, Opens, Words, Closes, put, put_inside}
 use Rattle.xml_grammar.specs.Documents.{width, Reads, nest_after}
-use Rattle.xml_grammar.proofs.Splits.{all_head, all_tail}
 
 pub width-append : (a b : List ℕ) → width (a ++ b) ≡ width a + width b
 width-append a b = ap length (encodes-append a b) ∙ length-append (encode_utf8_all a) (encode_utf8_all b)

@@ -11,7 +11,6 @@ use Rattle.std.proofs.lemmas.List.Kept.{AllPairs-cons}
 use Rattle.std.proofs.lemmas.List.Sums.{AllPass-from_list_all}
 use Rattle.xmp_values.specs.Characters.{is_char, is_blank, IsCharText, IsName}
 use Rattle.xmp_values.specs.Hints.{xmlns_space}
-use Rattle.xmp_values.specs.declared.text.Name.{Name}
 use Rattle.xml_grammar.specs.declared.elements.Attribute.{Attribute}
 use Rattle.xml_grammar.specs.declared.tags.RawAttribute.{RawAttribute}
 use Rattle.xml_grammar.specs.declared.tags.Tag.{Tag}

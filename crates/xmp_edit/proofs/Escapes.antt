@@ -1,8 +1,6 @@
 -- A text with escapes is read from its front to its end.
-use Rattle.std.proofs.Common.{◌≡◌, ◌∙◌, ◌+◌, ◌<◌, ℕ, suc, Bool, true, false, List, [], ◌∷◌, ◌++◌, Option, Some, None, length, get_or, drop, drop-cons, ap, sym, cond, arith}
-use Rattle.std.specs.Prelude.{◌==◌}
+use Rattle.std.proofs.Common.{◌≡◌, ◌∙◌, ◌+◌, ◌<◌, ℕ, suc, Bool, true, false, List, [], ◌∷◌, ◌++◌, Some, length, get_or, drop, drop-cons, ap, sym, cond, arith}
 use Rattle.std.proofs.lemmas.Bool.{eq-eqb, ne_eqb}
-use Rattle.std.specs.Str.{byte}
 use Rattle.xmp_paths.specs.Grammar.{consed}
 use Rattle.xmp_paths.proofs.Collected.{after, after_more}
 use Rattle.xmp_edit.specs.Lines.{escape_of, unescaped_from}

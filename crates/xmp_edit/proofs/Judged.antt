@@ -1,10 +1,10 @@
 -- What passes the tests of a line is allowed.
-use Rattle.std.proofs.Common.{◌≡◌, ◌≢◌, ◌↔◌, ◌∙◌, ◌+◌, ◌≤◌, ◌<◌, ℕ, Bool, true, false, List, [], ◌∷◌, ◌++◌, length, Option, Some, None, refl, ap, sym, cond, arith}
-use Rattle.std.specs.Prelude.{All, IfSome, ◌&&◌, ◌||◌, ◌==◌, not, nat_le, option_map, option_and_then, encode_utf8_all}
+use Rattle.std.proofs.Common.{◌≡◌, ◌↔◌, ◌∙◌, ◌+◌, ◌≤◌, ◌<◌, ℕ, Bool, true, false, List, [], ◌∷◌, ◌++◌, length, Option, Some, None, refl, ap, sym, cond, arith}
+use Rattle.std.specs.Prelude.{All, IfSome, ◌&&◌, ◌==◌, not, nat_le, option_map, option_and_then}
 use Rattle.std.specs.List.{fold, list_all}
-use Rattle.std.specs.Char.{is_ascii_alphabetic, is_ascii_alphanumeric}
-use Rattle.std.specs.Str.{byte, chars, IsUtf8, is_utf8, IsAscii}
-use Rattle.std.proofs.lemmas.Bool.{and_parts, and_from, or_cases, both_ways, not-true, not_from_false, eqb-false, leb-true, eqb-true}
+use Rattle.std.specs.Char.{is_ascii_alphabetic}
+use Rattle.std.specs.Str.{chars, IsUtf8}
+use Rattle.std.proofs.lemmas.Bool.{and_parts, and_from, both_ways, not-true, eqb-false}
 use Rattle.std.proofs.lemmas.Bool.Decides.{nat_tests}
 use Rattle.std.proofs.lemmas.List.Elements.{All-nil, All-cons}
 use Rattle.std.proofs.lemmas.Str.{chars-encodes, encodes-chars, IsUtf8-from_is_utf8, is_utf8-from_IsUtf8, encodes-IsAscii}
@@ -30,7 +30,7 @@ use Rattle.xmp_paths.proofs.NameTests.{is_name-IsName}
 use Rattle.xmp_paths.proofs.SpelledNames.{prefixed_local, spelled_names}
 use Rattle.xmp_paths.specs.Parts.{PathParts}
 use Rattle.xmp_paths.specs.Allowed.{IsAllowedPath}
-use Rattle.xmp_paths.proofs.Options.{some_if, some_and_then, some_map}
+use Rattle.xmp_paths.proofs.Options.{some_if, some_and_then}
 use Rattle.xmp_edit.specs.declared.action.Action.{Action}
 use Rattle.xmp_edit.specs.declared.action.Action.TheVariants.{SetText, SetUri, Delete, MakeArray, MakeStruct, Append, Insert, SetLang}
 use Rattle.xmp_edit.specs.declared.line.Line.{Line}
@@ -39,9 +39,9 @@ use Rattle.xmp_edit.specs.declared.words.Told.{Told}
 use Rattle.xmp_edit.specs.declared.words.Three.{Three}
 use Rattle.xmp_edit.specs.declared.words.Command.{Command}
 use Rattle.xmp_edit.specs.declared.words.Command.TheVariants as commands
-use Rattle.xmp_edit.specs.Lines.{worded, told, three, is_last_word, ns_line, text_line, lone_line, kind_of, array_line, insert_line, lang_line, qualify_line, command_of, formed, commanded, is_skipped, line_of}
+use Rattle.xmp_edit.specs.Lines.{worded, told, three, is_last_word, ns_line, lone_line, kind_of, array_line, command_of, formed, commanded, is_skipped, line_of}
 use Rattle.xmp_edit.specs.Allowed.{last_from, last_step, IsNot, MayEnd, texts_of, levels_of, IsAllowed, IsFormed}
-use Rattle.xmp_edit.specs.Judging.{is_chars, is_qualifier, suits_type, suits_lang, may_end, has_chars, has_tags, qualified, spelling_of}
+use Rattle.xmp_edit.specs.Judging.{is_chars, is_qualifier, may_end, has_chars, has_tags, qualified, spelling_of}
 
 -- the test of texts
 pub is_chars-IsCharText : (bytes : List ℕ) → IsCharText bytes ↔ (is_chars bytes ≡ true)

@@ -1,10 +1,8 @@
 -- The change of each action keeps what may stand at its place.
-use Rattle.std.proofs.Common.{◌≡◌, ◌≢◌, ◌+◌, ◌-◌, ◌≤◌, ◌++◌, ℕ, suc, Bool, true, false, List, [], ◌∷◌, length, take, drop, Option, Some, None, refl, sym, subst, arith}
+use Rattle.std.proofs.Common.{◌≡◌, ◌+◌, ◌-◌, ◌≤◌, ◌++◌, ℕ, Bool, true, false, List, [], ◌∷◌, length, take, drop, Option, Some, None, refl, sym, subst, arith}
 use Rattle.std.specs.Prelude.{All, Result, Ok, Err, insert, slice_get, if◌then◌else◌, nat_le}
-use Rattle.std.proofs.lemmas.List.Elements.{All-nil, All-cons, All-head, All-tail, All-push, All-set, All-append, All-take, All-drop, All-get_or}
-use Rattle.std.proofs.lemmas.Option.{get_or_from_slice_get, slice_get_within}
+use Rattle.std.proofs.lemmas.List.Elements.{All-nil, All-cons, All-head, All-tail, All-push, All-append, All-take, All-drop}
 use Rattle.xmp_values.specs.Characters.{IsCharText}
-use Rattle.xmp_values.specs.declared.text.Name.{Name}
 use Rattle.xmp_values.specs.declared.rules.Rule.{Rule}
 use Rattle.xmp_values.specs.declared.rules.Rule.TheVariants.{WrongShape, OutOfArray}
 use Rattle.xmp_tree.specs.declared.nested.Kind.{Kind}
@@ -15,7 +13,7 @@ use Rattle.xmp_tree.specs.declared.nested.Shape.{Shape, Shape-F, out-Shape, roll
 use Rattle.xmp_tree.specs.declared.nested.Shape.TheVariants.{rolls-Array}
 use Rattle.xmp_tree.specs.declared.nested.Shape.TheOpen as layer
 use Rattle.xmp_tree.specs.Parts.{member, value, simple}
-use Rattle.xmp_tree.specs.Wf.{IsWfValue, value_depth, IsPlain, IsPlainUri, lang_name, type_name, AreWellFormedQualifiers, IsWfMember, member_depth, name_of, value_of}
+use Rattle.xmp_tree.specs.Wf.{IsWfValue, value_depth, IsPlain, IsPlainUri, lang_name, type_name, AreWellFormedQualifiers, member_depth, value_of}
 use Rattle.xmp_tree.specs.Places.{tag_place}
 use Rattle.xmp_tree.proofs.WfLemmas.{within_value, within_struct, within_array}
 use Rattle.xmp_tree.proofs.Made.{formed_simple, depth-simple, formed_uri, depth-uri, plain_simple, plain_uri, formed_none, formed_quals_none, formed_quals_more, formed_member, depth-member, name-member, value-member, named_lang, lang_qualifier}
@@ -25,8 +23,8 @@ use Rattle.xmp_edit.specs.declared.action.Action.{Action}
 use Rattle.xmp_edit.specs.declared.action.Action.TheVariants.{SetText, SetUri, Delete, MakeArray, MakeStruct, Append, Insert, SetLang}
 use Rattle.xmp_edit.specs.declared.edit.Edit.{Edit}
 use Rattle.xmp_edit.specs.Edits.{Change, ok_map}
-use Rattle.xmp_edit.specs.Actions.{leaf_put, set_leaf, array_stays, struct_stays, same_kind, array_put, in_array, appended, inserted, spoken, is_default, said, alt_put, set_lang, change_of}
-use Rattle.xmp_edit.specs.Allowed.{IsWithin, SuitsName, Suits, Fits, IfSome', IfGiven, Keeps, KeepsLast, last_from, last_step, IsNot, MayEnd, texts_of, levels_of, IsAllowed}
+use Rattle.xmp_edit.specs.Actions.{leaf_put, set_leaf, array_stays, struct_stays, same_kind, array_put, in_array, appended, inserted, spoken, is_default, said, alt_put, change_of}
+use Rattle.xmp_edit.specs.Allowed.{IsWithin, Suits, Fits, IfSome', IfGiven, Keeps, KeepsLast, last_from, last_step, IsNot, MayEnd, texts_of, levels_of, IsAllowed}
 use Rattle.xmp_edit.proofs.Items.{kept_item}
 use Rattle.xmp_edit.proofs.Levels.{given_map, IsShapeWithin, AreItems, made_value}
 

@@ -9,7 +9,6 @@ use Rattle.xmp_tree.specs.declared.nested.Member.{Member}
 use Rattle.xmp_tree.specs.Parts.{Parts, member}
 use Rattle.xmp_tree.specs.Wf.{name_of, AreWellFormed, Wf, note_name}
 use Rattle.xmp_tree.proofs.Made.{name-member}
-use Rattle.xmp_paths.specs.declared.step.Step.{Step}
 use Rattle.xmp_paths.specs.declared.step.Step.TheVariants.{Field}
 use Rattle.xmp_edit.specs.Edits.{Change, ok_map, at_place, in_members, in_props, changed}
 use Rattle.xmp_paths.specs.Paths.{is_end}

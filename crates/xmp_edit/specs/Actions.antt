@@ -9,7 +9,7 @@ use Rattle.xmp_tree.specs.declared.nested.Value.{Value, out-Value}
 use Rattle.xmp_tree.specs.declared.nested.Member.{Member}
 use Rattle.xmp_tree.specs.declared.nested.Shape.{Shape, Shape-F, out-Shape, Simple, Uri, Struct, Array}
 use Rattle.xmp_tree.specs.declared.nested.Shape.TheOpen as layer
-use Rattle.xmp_tree.specs.Parts.{Parts, member, value, simple}
+use Rattle.xmp_tree.specs.Parts.{member, value, simple}
 use Rattle.xmp_tree.specs.Wf.{lang_name}
 use Rattle.xmp_tree.specs.Places.{tag_place}
 use Rattle.xmp_edit.specs.declared.action.Action.{Action}

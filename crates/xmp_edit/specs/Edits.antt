@@ -1,7 +1,7 @@
 -- Edits: what a change at the end of a path makes of a value and of a tree. A change takes the value that
 -- stands at the place, or none where the place is missing, and gives the value that is to stand there, or
 -- none to take it out, or a rule. The steps are tried from the left, and the first that fails gives the rule.
-use Rattle.std.specs.Prelude.{ℕ, ◌==◌, nat_lt, length, Bool, true, false, ◌&&◌, if◌then◌else◌, List, [], ◌∷◌, ◌++◌, Option, Some, None, Result, Ok, Err, slice_get}
+use Rattle.std.specs.Prelude.{ℕ, ◌==◌, nat_lt, length, Bool, false, ◌&&◌, if◌then◌else◌, List, [], ◌∷◌, ◌++◌, Option, Some, None, Result, Ok, Err, slice_get}
 use Rattle.xmp_values.specs.declared.text.Name.{Name}
 use Rattle.xmp_values.specs.declared.rules.Rule.{Rule}
 use Rattle.xmp_values.specs.declared.rules.Rule.TheVariants.{NoSuchPlace, WrongShape, OutOfArray}

@@ -2,7 +2,7 @@
 -- are the rest of the line after their space.
 --   ns PREFIX URI | set PATH VALUE | seturi PATH URI | delete PATH | array PATH KIND | struct PATH
 --   append PATH VALUE | insert PATH N VALUE | setlang PATH TAG VALUE | qualify PATH NAME VALUE
-use Rattle.std.specs.Prelude.{ℕ, ◌+◌, ◌-◌, ◌==◌, nat_lt, Bool, true, false, ◌&&◌, not, if◌then◌else◌, List, [], ◌∷◌, length, take, drop, slice_index, map, Option, Some, None, option_map, option_and_then, codes}
+use Rattle.std.specs.Prelude.{ℕ, ◌+◌, ◌-◌, ◌==◌, nat_lt, Bool, true, false, ◌&&◌, not, if◌then◌else◌, List, [], ◌∷◌, length, take, drop, slice_index, Option, Some, None, option_map, option_and_then, codes}
 use Rattle.std.specs.List.{position_or_len, before_first}
 use Rattle.std.specs.Str.{byte, bytes_eq}
 use Rattle.xmp_tree.specs.declared.nested.Kind.{Kind}

@@ -1,5 +1,5 @@
 -- Scripts: which edits and hints a text gives, or its first bad line with the least rule that it breaks.
-use Rattle.std.specs.Prelude.{ℕ, ◌+◌, if◌then◌else◌, List, [], ◌∷◌, ◌++◌, Option, Some, None, Result, Ok, Err}
+use Rattle.std.specs.Prelude.{ℕ, ◌+◌, if◌then◌else◌, List, [], ◌∷◌, ◌++◌, None, Result, Ok, Err}
 use Rattle.std.specs.List.{fold}
 use Rattle.std.specs.Str.{is_utf8}
 use Rattle.std.specs.Str.Lossy.{utf8_valid_len}
@@ -7,7 +7,6 @@ use Rattle.xmp_values.specs.declared.hints.Hint.{Hint}
 use Rattle.xmp_values.specs.declared.rules.Rule.{Rule}
 use Rattle.xmp_values.specs.declared.rules.Rule.TheVariants.{ScriptUtf8, BadText, BadLanguageTag}
 use Rattle.xmp_values.specs.Hints.{has_space}
-use Rattle.xmp_paths.specs.Parts.{Bindings}
 use Rattle.xmp_edit.specs.declared.action.Action.TheVariants.{SetText}
 use Rattle.xmp_edit.specs.declared.edit.Edit.{Edit}
 use Rattle.xmp_edit.specs.declared.given.Given.{Given}

@@ -10,8 +10,7 @@ use Rattle.xmp_values.specs.declared.hints.Hint.{Hint}
 use Rattle.xmp_values.specs.declared.rules.Rule.{Rule}
 use Rattle.xmp_tree.specs.Parts.{Parts}
 use Rattle.rdf_forms.specs.Meaning.{Meaning, meaning_of}
-use Rattle.xmp_rdf.specs.Reading.{unless}
-use Rattle.xmp_rdf.specs.Meanings.{reading, reading_within}
+use Rattle.xmp_rdf.specs.Meanings.{unless, reading, reading_within}
 use Rattle.xmp_write.specs.declared.forms.Form.{Form}
 use Rattle.xmp_write.specs.WrittenPackets.{packet, canonical_packet}
 use Rattle.xmp_write.specs.Prefixes.{prefixes}

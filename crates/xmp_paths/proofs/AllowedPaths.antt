@@ -1,6 +1,6 @@
 -- A spelled path whose prefixes are found and that isn't reserved is allowed.
-use Rattle.std.proofs.Common.{◌≡◌, ◌≢◌, ◌∙◌, ℕ, Bool, true, false, List, [], ◌∷◌, Option, Some, None, refl, ap, sym, subst}
-use Rattle.std.specs.Prelude.{IfSome, ◌&&◌, ◌||◌, not, option_map}
+use Rattle.std.proofs.Common.{◌≡◌, ◌≢◌, Bool, true, false, List, [], ◌∷◌, Some, refl, ap, sym}
+use Rattle.std.specs.Prelude.{IfSome, ◌&&◌, ◌||◌, not}
 use Rattle.std.specs.Str.{bytes_eq}
 use Rattle.std.proofs.lemmas.Bool.{or_parts, both_ways, false_from_ne_true}
 use Rattle.std.proofs.lemmas.Slice.Eq.{bytes_eq-Decides}
@@ -17,9 +17,9 @@ use Rattle.xmp_paths.specs.declared.spelling.SpelledStep.TheVariants as spelt
 use Rattle.xmp_paths.specs.declared.spelling.Spelling.{Spelling}
 use Rattle.xmp_paths.specs.declared.step.Step.{Step}
 use Rattle.xmp_paths.specs.declared.step.Step.TheVariants.{Field, Qualifier, Item, Tag}
-use Rattle.xmp_paths.specs.Parts.{PathParts, Bindings}
+use Rattle.xmp_paths.specs.Parts.{Bindings}
 use Rattle.xmp_paths.specs.Namespaces.{space_of, AreBound}
-use Rattle.xmp_paths.specs.Paths.{name_found, step_found, steps_found, path_parts, path_found, is_foreign, is_special, is_end, is_reserved_step, are_reserved, is_reserved}
+use Rattle.xmp_paths.specs.Paths.{name_found, step_found, steps_found, is_foreign, is_special, is_end, is_reserved_step, are_reserved, is_reserved}
 use Rattle.xmp_paths.specs.Allowed.{IsFieldName, IsQualifierName, IsStep, AreSteps, IsAllowedPath, IsSpelledStep, AreSpelledSteps, IsSpelling}
 use Rattle.xmp_paths.proofs.Options.{some_map, some_consed, some_at}
 use Rattle.xmp_paths.proofs.Spaces.{IsSpace, space_is}

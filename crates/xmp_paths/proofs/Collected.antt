@@ -1,5 +1,5 @@
 -- Steps that are collected one by one, each of them there or not.
-use Rattle.std.proofs.Common.{◌≡◌, ◌++◌, List, [], ◌∷◌, Option, Some, None, refl, ap, append_assoc, sym}
+use Rattle.std.proofs.Common.{◌≡◌, ◌++◌, List, [], ◌∷◌, Option, Some, None, refl, ap, append_assoc}
 use Rattle.xmp_paths.specs.Grammar.{consed}
 
 -- those that are collected, and more after them, if there are

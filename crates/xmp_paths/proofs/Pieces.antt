@@ -1,5 +1,5 @@
 -- The steps of a text are read from its front to its end.
-use Rattle.std.proofs.Common.{◌≡◌, ◌∙◌, ◌+◌, ◌<◌, ℕ, suc, Bool, true, false, List, [], ◌∷◌, ◌++◌, Option, Some, None, length, get_or, take, drop, drop-cons, refl, ap, sym, cond, arith}
+use Rattle.std.proofs.Common.{◌≡◌, ◌∙◌, ◌+◌, ◌<◌, ℕ, suc, true, false, List, [], ◌∷◌, ◌++◌, Some, None, length, get_or, take, drop, drop-cons, ap, sym, cond, arith}
 use Rattle.std.specs.List.{position_or_len, before_first}
 use Rattle.xmp_paths.specs.declared.spelling.SpelledStep.{SpelledStep}
 use Rattle.xmp_paths.specs.Grammar.{spelled_step, is_mark, pieces, consed, spelled_steps}

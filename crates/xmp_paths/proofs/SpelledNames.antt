@@ -1,5 +1,5 @@
 -- The local parts of what is spelled are names.
-use Rattle.std.proofs.Common.{◌≡◌, ℕ, Bool, true, false, List, [], ◌∷◌, Option, Some, None, refl, ap, subst, cond}
+use Rattle.std.proofs.Common.{◌≡◌, ℕ, Bool, true, false, List, [], ◌∷◌, Option, Some, None, refl, cond}
 use Rattle.std.specs.Prelude.{IfSome, ◌==◌, ◌&&◌, option_map, option_and_then}
 use Rattle.std.specs.List.{before_first, after_first}
 use Rattle.std.specs.Str.{byte}
@@ -8,8 +8,7 @@ use Rattle.xmp_values.specs.Characters.{IsName}
 use Rattle.xmp_paths.specs.declared.spelling.Prefixed.{Prefixed}
 use Rattle.xmp_paths.specs.declared.spelling.SpelledStep.{SpelledStep}
 use Rattle.xmp_paths.specs.declared.spelling.SpelledStep.TheVariants.{Field, Qualifier, Item, Tag}
-use Rattle.xmp_paths.specs.declared.spelling.Spelling.{Spelling}
-use Rattle.xmp_paths.specs.Grammar.{is_name, is_colon, prefixed, place_of_number, is_lang_tag, bracketed, member_step, item_step, spelled_step, is_mark, pieces, consed, spelled_steps, spelling, spelled}
+use Rattle.xmp_paths.specs.Grammar.{is_name, is_colon, prefixed, place_of_number, is_lang_tag, bracketed, member_step, item_step, spelled_step, is_mark, pieces, spelled_steps, spelling, spelled}
 use Rattle.xmp_paths.specs.Allowed.{IsSpelledStep, AreSpelledSteps, IsSpelling}
 use Rattle.xmp_paths.proofs.NameTests.{is_name-IsName}
 use Rattle.xmp_paths.proofs.Options.{some_if, some_map, some_and_then, some_consed}

@@ -5,7 +5,7 @@ use Rattle.std.proofs.lemmas.Result.{err_from_is_err_and}
 use Rattle.xmp_values.specs.declared.stops.PlaceStop.{PlaceStop}
 use Rattle.xmp_values.specs.declared.stops.PlaceStop.TheVariants as stops
 use Rattle.xmp_values.specs.Stops.{place_of, Stops, Gives, Makes}
-use Rattle.xmp_rdf.specs.Answering.{Fault}
+use Rattle.xmp_rdf.specs.Meanings.{Fault}
 
 -- a step's fault is that of the whole
 pub fails_whole : {X Y : Type 0} (e : PlaceStop) (step : Result X Fault) (whole : Result Y Fault) → ((f : Fault) → step ≡ Err f → whole ≡ Err f) →

@@ -4,8 +4,7 @@ use Rattle.std.specs.Prelude.{Option, Some, None, Result, Ok, Err}
 use Rattle.rdf_forms.specs.Visits.{Visit}
 use Rattle.std.specs.Option.{option_or}
 use Rattle.rdf_forms.specs.Rules.{fault_at, first_fault}
-use Rattle.xmp_rdf.specs.Answering.{Fault}
-use Rattle.xmp_rdf.specs.Reading.{unless}
+use Rattle.xmp_rdf.specs.Meanings.{Fault, unless}
 
 pub option_or_assoc : {X : Type 0} (a b c : Option X) → option_or (option_or a b) c ≡ option_or a (option_or b c)
 option_or_assoc (Some x) b c = refl

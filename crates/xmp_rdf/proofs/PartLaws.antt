@@ -20,9 +20,9 @@ use Rattle.rdf_forms.specs.NameRules.{first_about}
 use Rattle.rdf_soundness.proofs.Words.{same_name_is}
 use Rattle.rdf_soundness.proofs.TreeLaw.{formed_tree}
 use Rattle.xmp_rdf.specs.declared.tops.Contents.{Contents}
-use Rattle.xmp_rdf.specs.Reading.{unless, read_root}
+use Rattle.xmp_rdf.specs.Reading.{read_root}
 use Rattle.xmp_rdf.specs.Parting.{parts_of, with_placed, member_digits, note_digits}
-use Rattle.xmp_rdf.specs.Meanings.{reading_within, most_levels, reading}
+use Rattle.xmp_rdf.specs.Meanings.{unless, reading_within, most_levels, reading}
 use Rattle.xmp_rdf.proofs.Faults.{and_then, unless-made, unless-ok}
 
 -- ---- the note

@@ -22,8 +22,8 @@ use Rattle.rdf_forms.specs.Values.{plain, lang_qualifiers, type_of, kind_of, by_
 use Rattle.std.specs.Option.{option_or}
 use Rattle.rdf_forms.specs.Rules.{fault_at, first_fault}
 use Rattle.rdf_forms.proofs.ChildLaws.{element_at-Element, element_at-Text}
-use Rattle.xmp_rdf.specs.Answering.{Fault}
-use Rattle.xmp_rdf.specs.Reading.{unless, checked, read_within, read_form, read_all, visits_in, read_members, read_items}
+use Rattle.xmp_rdf.specs.Meanings.{Fault, unless}
+use Rattle.xmp_rdf.specs.Reading.{checked, read_within, read_form, read_all, visits_in, read_members, read_items}
 use Rattle.xmp_rdf.proofs.Faults.{first_fault-append, and_then, unless-and_then, unless-made}
 
 -- ---- a property or item, by its form

@@ -14,8 +14,8 @@ use Rattle.rdf_forms.specs.Meaning.{Placed, placed_in}
 use Rattle.rdf_soundness.proofs.Unbroken.{unbroken_in}
 use Rattle.rdf_soundness.proofs.TreeLaw.{one_rdf}
 use Rattle.xmp_rdf.specs.declared.tops.Contents.{Contents}
-use Rattle.xmp_rdf.specs.Answering.{Fault}
-use Rattle.xmp_rdf.specs.Reading.{unless, checked, read_tops, read_rdf, read_root}
+use Rattle.xmp_rdf.specs.Meanings.{Fault, unless}
+use Rattle.xmp_rdf.specs.Reading.{checked, read_tops, read_rdf, read_root}
 use Rattle.xmp_rdf.specs.Parting.{parts_of}
 use Rattle.xmp_rdf.proofs.Faults.{and_then, unless-and_then, unless-made, unless-ok}
 

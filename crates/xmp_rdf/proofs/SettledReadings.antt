@@ -8,8 +8,7 @@ use Rattle.xml_grammar.specs.Heights.{height}
 use Rattle.xml_grammar.proofs.LowTrees.{low_document}
 use Rattle.rdf_forms.specs.Meaning.{Meaning}
 use Rattle.rdf_forms.proofs.Settled.{settled_meaning}
-use Rattle.xmp_rdf.specs.Reading.{unless}
-use Rattle.xmp_rdf.specs.Meanings.{reading_within, most_levels, reading}
+use Rattle.xmp_rdf.specs.Meanings.{unless, reading_within, most_levels, reading}
 
 from_height : (root : Element) (hints : List Hint) (levels : ℕ) → height root ≤ levels → reading_within levels root hints ≡ reading_within (height root) root hints
 unfolding reading_within

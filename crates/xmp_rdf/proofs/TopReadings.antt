@@ -28,8 +28,8 @@ use Rattle.rdf_forms.specs.Broken.{IsTop}
 use Rattle.xmp_values.specs.declared.rules.Rule.{Rule}
 use Rattle.rdf_forms.specs.Meaning.{Placed, placed_in}
 use Rattle.rdf_forms.specs.Entering.{Holds}
-use Rattle.xmp_rdf.specs.Answering.{Fault}
-use Rattle.xmp_rdf.specs.Reading.{unless, checked_top, read_within, read_all, placed_member, read_placed, read_tops, visits_in}
+use Rattle.xmp_rdf.specs.Meanings.{Fault, unless}
+use Rattle.xmp_rdf.specs.Reading.{checked_top, read_within, read_all, placed_member, read_placed, read_tops, visits_in}
 use Rattle.xmp_rdf.specs.Gathering.{IsAfter, Enters}
 use Rattle.xmp_rdf.proofs.Faults.{first_fault-append, and_then, unless-and_then, unless-made}
 use Rattle.xmp_rdf.proofs.Readings.{all_after, in-element, in-text, elements_more, elements_split}

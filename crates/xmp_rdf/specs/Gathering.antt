@@ -12,7 +12,7 @@ use Rattle.rdf_forms.specs.Meaning.{Placed}
 use Rattle.rdf_forms.specs.Entering.{Holds}
 use Rattle.xmp_rdf.specs.declared.parting.Parted.{Parted}
 use Rattle.xmp_rdf.specs.declared.tops.Gathered.{Gathered}
-use Rattle.xmp_rdf.specs.Answering.{Fault}
+use Rattle.xmp_rdf.specs.Meanings.{Fault}
 use Rattle.xmp_rdf.specs.Reading.{checked_top, read_tops}
 use Rattle.xmp_rdf.specs.Parting.{parts_of}
 

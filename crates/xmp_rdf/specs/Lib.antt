@@ -1,4 +1,3 @@
-pub mod Answering
 pub mod Parting
 pub mod Reading
 pub mod Gathering

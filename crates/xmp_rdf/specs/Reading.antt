@@ -1,5 +1,5 @@
 -- Reading elements: the first fault among them, or what they mean.
-use Rattle.std.specs.Prelude.{ℕ, ◌+◌, List, ◌++◌, map, Option, Some, None, Result, Ok, Err}
+use Rattle.std.specs.Prelude.{ℕ, ◌+◌, List, ◌++◌, map, Result}
 use Rattle.std.specs.List.{flat_map}
 use Rattle.xml_grammar.specs.declared.elements.Element.{Element}
 use Rattle.xmp_tree.specs.declared.nested.Value.{Value}
@@ -16,13 +16,8 @@ use Rattle.rdf_forms.specs.Values.{element_member, formed, value_within}
 use Rattle.rdf_forms.specs.Rules.{fault_at, first_fault, fault_of}
 use Rattle.rdf_forms.specs.Meaning.{Placed, tops_of, placed_in, all_placed}
 use Rattle.xmp_rdf.specs.declared.tops.Contents.{Contents}
-use Rattle.xmp_rdf.specs.Answering.{Fault}
+use Rattle.xmp_rdf.specs.Meanings.{Fault, unless}
 use Rattle.xmp_rdf.specs.Parting.{parts_of}
-
--- what is read, unless there is a fault
-abbrev pub unless : {Y : Type 0} → Option Fault → Y → Result Y Fault
-unless None read = Ok read
-unless (Some fault) read = Err fault
 
 -- an element by itself, of which nothing is read
 unfoldable pub checked : Role → ℕ → Element → Result (Unit {0}) Fault

@@ -1,7 +1,7 @@
 -- Where a name or a language leads: the place of a member in a list of members, and of an item in
 -- the items of an array (ISO 16684-1, 6.3, 6.4).
-use Rattle.std.specs.Prelude.{ℕ, Bool, false, ◌&&◌, List, Option, Some, None, option_map, option_and_then, find, position}
-use Rattle.std.specs.Str.{bytes_eq, str_eq_ignore_ascii_case}
+use Rattle.std.specs.Prelude.{ℕ, Bool, false, List, Option, Some, None, option_map, option_and_then, find, position}
+use Rattle.std.specs.Str.{str_eq_ignore_ascii_case}
 use Rattle.xmp_values.specs.declared.text.Name.{Name}
 unfoldable pub use Rattle.xmp_values.specs.Names.{same_name}
 use Rattle.xmp_tree.specs.declared.nested.Value.{Value, out-Value}

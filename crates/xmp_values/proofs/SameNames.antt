@@ -1,5 +1,5 @@
 -- Two names are the same where the test of their bytes says so.
-use Rattle.std.proofs.Common.{◌≡◌, ◌↔◌, ℕ, List, true, ap}
+use Rattle.std.proofs.Common.{◌≡◌, ◌↔◌, true, ap}
 use Rattle.std.specs.Str.{bytes_eq}
 use Rattle.std.proofs.lemmas.Bool.{and_parts, and_from}
 use Rattle.std.proofs.lemmas.Slice.Eq.{bytes_eq-Decides}

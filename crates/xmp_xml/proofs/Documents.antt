@@ -15,7 +15,7 @@ use Rattle.xml_grammar.specs.declared.tokens.Token.TheVariants as tokens
 use Rattle.xml_grammar.specs.Pieces.{Piece, Declaration, Instruction, Comment, Cdata, Start, End, Reference, LineEnd, Character}
 use Rattle.xml_tokenizer.specs.Rows.{StandsRow}
 use Rattle.xml_grammar.specs.Nesting as nesting
-use Rattle.xml_grammar.specs.Nesting.{Nest, Level, mode_of, is_outside, broken}
+use Rattle.xml_grammar.specs.Nesting.{Nest, mode_of, broken}
 use Rattle.xml_grammar.specs.Trees.{events, events_of, put, first_hints}
 use Rattle.xml_grammar.specs.Documents.{width, IsDocument}
 use Rattle.xml_tokenizer.proofs.RunPieces.{IsRunFree}

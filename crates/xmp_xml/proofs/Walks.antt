@@ -14,7 +14,7 @@ use Rattle.xml_grammar.specs.Pieces.{Piece, Declaration, Instruction, Comment, C
 use Rattle.xml_tokenizer.specs.Rows.{StandsRow}
 use Rattle.xml_grammar.specs.Scopes.{Binding, bindings_of, element_name, expanded_attributes}
 use Rattle.xml_grammar.specs.Nesting as nesting
-use Rattle.xml_grammar.specs.Nesting.{Level, Nest, bound_in, bound_at, enter, is_outside, is_allowed_outside, broken, mode_of}
+use Rattle.xml_grammar.specs.Nesting.{Level, Nest, bound_in, bound_at, enter, is_outside, broken, mode_of}
 use Rattle.xml_grammar.specs.Trees.{Event, Opens, Words, Closes, joined, events, put, put_inside, closing, piece_events, hint_of, piece_hints, Placed, events_of, all_hints}
 use Rattle.xml_grammar.specs.Documents.{width, mark_width, after_mark, Reads, Begins, nest_after}
 use Rattle.xml_grammar.proofs.TreeEvents.{element_is, text_is}

@@ -1,4 +1,4 @@
-use Rattle.std.proofs.Common.{◌≡◌, ℕ, ◌+◌, ◌-◌, ◌*◌}
+use Rattle.std.proofs.Common.{◌≡◌, ◌+◌, ◌-◌, ◌*◌}
 use Rattle.exif_fields.specs.Blocks.{entries_at, entries_from, first_of}
 use Rattle.exif_fields.proofs.block.exif_offset.Given as goal
 

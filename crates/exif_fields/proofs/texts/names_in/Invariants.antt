@@ -1,4 +1,4 @@
-use Rattle.std.proofs.Common.{◌≡◌, ℕ, List, ◌++◌, length}
+use Rattle.std.proofs.Common.{◌≡◌, ◌++◌, length}
 use Rattle.exif_fields.specs.Fields.{names_in}
 use Rattle.exif_fields.proofs.texts.names_in.Given as goal
 

@@ -1,4 +1,4 @@
-use Rattle.std.proofs.Common.{◌≡◌, ◌∙◌, List, Option, Some, Ok, sym, ap, subst}
+use Rattle.std.proofs.Common.{◌∙◌, List, Option, Some, Ok, sym, ap, subst}
 use Rattle.std.specs.Prelude.{slice_get}
 use Rattle.xmp_tree.specs.declared.nested.Value.{Value}
 use Rattle.xmp_tree.specs.Parts.{member}

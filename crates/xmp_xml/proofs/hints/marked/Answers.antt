@@ -1,7 +1,7 @@
 use Rattle.std.proofs.Common.{◌≡◌, ◌∙◌, ◌∷◌, ◌++◌, [], List, Bool, ap, sym, append_assoc, append-nil}
 use Rattle.std.specs.Prelude.{if◌then◌else◌}
 use Rattle.xmp_values.specs.declared.hints.Hint.{Hint}
-use Rattle.xmp_xml.specs.Marks.{first_mark, later_marks, marked}
+use Rattle.xmp_xml.specs.Marks.{marked}
 use Rattle.xmp_xml.proofs.Hinting.{marked_next}
 use Rattle.xmp_xml.proofs.hints.marked.Goals as goal
 

@@ -1,4 +1,4 @@
-use Rattle.std.proofs.Common.{◌≡◌, ℕ, ◌+◌, ◌-◌, ◌*◌, Ok}
+use Rattle.std.proofs.Common.{◌≡◌, ◌+◌, ◌-◌, ◌*◌, Ok}
 use Rattle.exif_fields.specs.Blocks.{entries_at, entries_from, with_entries}
 use Rattle.exif_fields.proofs.raw.RawExif.add_directory.Given as goal
 
