@@ -18,8 +18,6 @@ mod places;
 mod reading;
 mod script;
 mod slots;
-#[cfg(test)]
-mod tests;
 mod words;
 
 pub use action::Action;

@@ -13,8 +13,6 @@ mod path;
 mod resolving;
 mod spelling;
 mod step;
-#[cfg(test)]
-mod tests;
 
 pub use finding::{child, find, items_of};
 pub use namespaces::Namespaces;

@@ -13,10 +13,6 @@ mod listing;
 mod placing;
 mod prefixes;
 mod splits;
-#[cfg(test)]
-mod test_trees;
-#[cfg(test)]
-mod tests;
 mod uses;
 mod values;
 mod writing;

@@ -1,6 +1,7 @@
-use super::*;
+//! Trees that scripts make, and the first faults of scripts.
 use std::alloc::Global;
 use std::test::Fail;
+use xmp_edit::{Path, Script, apply, find, one_set};
 use xmp_tree::{Kind, Shape, Tree, Value, empty, equal};
 use xmp_values::{Hints, PlaceStop};
 

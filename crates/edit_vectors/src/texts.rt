@@ -1,14 +1,18 @@
 ghost use Rattle.std.specs.Prelude.{◌≡◌, vec_len};
 
-use super::*;
-use crate::test_trees::{
+use crate::made_trees::{
     DC, array, creator, hinted, item, member, more, one, qualified, simple, structure, text,
     tree_of, uri, usual,
 };
+use std::alloc::AllocGlobal;
 use std::process::Abort;
 use xmp_paths::Path;
 use xmp_tree::{Kind, Member, Members, Tree};
 use xmp_values::{Bytes, Digits, Hints, Text};
+use xmp_write::{
+    Form, Prefixes, Split, SplitStop, lines, measure, packet_into, pad_into, value_lines,
+    write_into,
+};
 
 const FRONT: &str =
     "<x:xmpmeta xmlns:x=\"adobe:ns:meta/\">\n<rdf:RDF xmlns:rdf=\"http://www.w3.org/1999/02/22-rdf-syntax-ns#\">\n\

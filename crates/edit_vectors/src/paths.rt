@@ -1,6 +1,7 @@
-use super::*;
+//! Paths that are read, and values that they find.
 use std::alloc::Global;
 use std::test::Fail;
+use xmp_paths::{Path, PathStop, find};
 use xmp_tree::{Member, Members, Shape, Tree, Value};
 use xmp_values::{Bytes, Hint, Hints, Memory, Name, Rule, Text};
 

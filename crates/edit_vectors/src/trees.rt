@@ -1,6 +1,9 @@
-use super::*;
+//! Lists of members that are well-formed or not, and trees that are compared.
 use std::alloc::Global;
 use std::test::Fail;
+use xmp_tree::{
+    Member, Members, Shape, Tree, Value, are_well_formed_qualifiers, copy, equal, is_well_formed,
+};
 use xmp_values::{Bytes, Memory, Name, Text};
 
 const DC: &str = "http://purl.org/dc/elements/1.1/";
