@@ -12,12 +12,8 @@
 mod emitting;
 mod faults;
 mod held;
-#[cfg(test)]
-mod kind_tests;
 mod kinds;
 mod laws;
-#[cfg(test)]
-mod load_tests;
 mod loading;
 mod meanings;
 mod opening;
@@ -28,6 +24,7 @@ mod plans;
 pub use emitting::emit;
 pub use faults::{no_file, not_built};
 pub use held::{Held, Need};
+pub use kinds::{Kind, kind_of};
 pub use laws::{one_kept, one_meaning, one_opened, sidecar_is_patched, sidecar_is_written};
 pub use loading::load;
 pub use opening::{Opened, read_file};

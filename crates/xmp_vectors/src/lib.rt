@@ -1,10 +1,12 @@
 //! Worked examples: whole runs over devices in memory, with their answers.
 //!
 //! The files stand here as values, and the tests compare a run's status, text and line
-//! with what the public standard and the manual of `xmp` give for them. It stands on
-//! `xmp_cli` and `xmp_base`.
+//! with what the public standard and the manual of `xmp` give for them; also files as they are
+//! loaded. It stands on `xmp_cli`, `xmp_files` and `xmp_base`.
 #![tactic(auto)]
 
+#[cfg(test)]
+mod beginnings;
 #[cfg(test)]
 mod commands;
 #[cfg(test)]
@@ -18,6 +20,8 @@ mod failing;
 mod files;
 #[cfg(test)]
 mod kinds;
+#[cfg(test)]
+mod loading;
 #[cfg(test)]
 mod made_trees;
 #[cfg(test)]

@@ -1,6 +1,6 @@
 //! Beginnings of files, and how they are told apart.
-use crate::kinds::{Kind, kind_of};
 use std::test::Fail;
+use xmp_files::{Kind, kind_of};
 
 /// Beginnings of files, each with the kind of the file.
 const FILES: [(&[u8], Option<Kind>); 61] = [

@@ -1,8 +1,8 @@
 //! Files that are loaded from devices, and those that are refused.
-use crate::{Held, LoadStop, Need, load};
 use std::alloc::Global;
 use std::test::Fail;
 use xmp_base::{MemoryDesk, SparseDesk};
+use xmp_files::{Held, LoadStop, Need, load};
 use xmp_values::{Fault, Memory, Part, Place, Rule};
 
 /// Loads a file of these bytes from a desk that fails at a call, or at none.
