@@ -7,45 +7,46 @@ use xmp_values::{Bytes, Hint, Hints, Memory, Name, Rule, Text};
 
 /// Texts, each with the number of steps of its path, or the rule that it breaks. The file hints at one
 /// prefix, `p`.
-const PATHS: &str = "\
-dc:format|0;\
-Iptc4xmpCore:Location|0;\
-p:\u{E9}t\u{E9}-1|0;\
-dc:a/?xml:lang|1;\
-dc:a/?rdf:type|1;\
-dc:a/xmpNote:HasExtendedXMP|1;\
-dc:a/b:c[1]|UnknownPrefix;\
-dc:a/dc:b/?p:c[1][999999999][x-default][en-US]|6;\
-rdf:a/zz:b|UnknownPrefix;\
-zz:a/[|BadPath;\
-rdf:value|Reserved;\
-xml:lang|Reserved;\
-rdf:type|Reserved;\
-xmpNote:HasExtendedXMP|Reserved;\
-dc:a/rdf:type|Reserved;\
-dc:a/xml:lang|Reserved;\
-dc:a/?rdf:value|Reserved;\
-dc:a/?xml:lang[1]|Reserved;\
-dc:a/?rdf:type/?dc:b|Reserved;\
-DC:a|UnknownPrefix;\
-|BadPath;\
-dc|BadPath;\
-:a|BadPath;\
-dc:a:b|BadPath;\
-dc:a |BadPath;\
-dc:a/|BadPath;\
-dc:a/?|BadPath;\
-dc:a//dc:b|BadPath;\
-dc:a[|BadPath;\
-dc:a[]|BadPath;\
-dc:a[0]|BadPath;\
-dc:a[01]|BadPath;\
-dc:a[+1]|BadPath;\
-dc:a[1]]|BadPath;\
-dc:a[1]x|BadPath;\
-dc:a[1234567890]|BadPath;\
-dc:a[-en]|BadPath;\
-dc:a[e_n]|BadPath";
+const PATHS: [(&str, Result<usize, Rule>); 38] = [
+    ("dc:format", Ok(0)),
+    ("Iptc4xmpCore:Location", Ok(0)),
+    ("p:\u{E9}t\u{E9}-1", Ok(0)),
+    ("dc:a/?xml:lang", Ok(1)),
+    ("dc:a/?rdf:type", Ok(1)),
+    ("dc:a/xmpNote:HasExtendedXMP", Ok(1)),
+    ("dc:a/b:c[1]", Err(Rule::UnknownPrefix)),
+    ("dc:a/dc:b/?p:c[1][999999999][x-default][en-US]", Ok(6)),
+    ("rdf:a/zz:b", Err(Rule::UnknownPrefix)),
+    ("zz:a/[", Err(Rule::BadPath)),
+    ("rdf:value", Err(Rule::Reserved)),
+    ("xml:lang", Err(Rule::Reserved)),
+    ("rdf:type", Err(Rule::Reserved)),
+    ("xmpNote:HasExtendedXMP", Err(Rule::Reserved)),
+    ("dc:a/rdf:type", Err(Rule::Reserved)),
+    ("dc:a/xml:lang", Err(Rule::Reserved)),
+    ("dc:a/?rdf:value", Err(Rule::Reserved)),
+    ("dc:a/?xml:lang[1]", Err(Rule::Reserved)),
+    ("dc:a/?rdf:type/?dc:b", Err(Rule::Reserved)),
+    ("DC:a", Err(Rule::UnknownPrefix)),
+    ("", Err(Rule::BadPath)),
+    ("dc", Err(Rule::BadPath)),
+    (":a", Err(Rule::BadPath)),
+    ("dc:a:b", Err(Rule::BadPath)),
+    ("dc:a ", Err(Rule::BadPath)),
+    ("dc:a/", Err(Rule::BadPath)),
+    ("dc:a/?", Err(Rule::BadPath)),
+    ("dc:a//dc:b", Err(Rule::BadPath)),
+    ("dc:a[", Err(Rule::BadPath)),
+    ("dc:a[]", Err(Rule::BadPath)),
+    ("dc:a[0]", Err(Rule::BadPath)),
+    ("dc:a[01]", Err(Rule::BadPath)),
+    ("dc:a[+1]", Err(Rule::BadPath)),
+    ("dc:a[1]]", Err(Rule::BadPath)),
+    ("dc:a[1]x", Err(Rule::BadPath)),
+    ("dc:a[1234567890]", Err(Rule::BadPath)),
+    ("dc:a[-en]", Err(Rule::BadPath)),
+    ("dc:a[e_n]", Err(Rule::BadPath)),
+];
 
 /// The one hint.
 fn hinted(alloc: Global) -> Result<Hints, Memory> {
@@ -57,11 +58,11 @@ fn hinted(alloc: Global) -> Result<Hints, Memory> {
     Ok(hints)
 }
 
-/// What a text gives: the number of steps, or the name of the rule.
-fn is_read(alloc: Global, hints: &Hints, text: &[u8], want: &str) -> Result<bool, Memory> {
+/// What a text gives: the number of steps, or the broken rule.
+fn read(alloc: Global, hints: &Hints, text: &[u8]) -> Result<Result<usize, Rule>, Memory> {
     match Path::read(alloc, text, hints) {
-        Ok(path) => Ok(want.parse::<usize>() == Ok(path.steps().len())),
-        Err(PathStop::Fault(rule)) => Ok(rule.name() == want),
+        Ok(path) => Ok(Ok(path.steps().len())),
+        Err(PathStop::Fault(rule)) => Ok(Err(rule)),
         Err(PathStop::Memory) => Err(Memory),
     }
 }
@@ -70,11 +71,10 @@ fn is_read(alloc: Global, hints: &Hints, text: &[u8], want: &str) -> Result<bool
 fn paths_are_read(rt: HostRuntime) -> Result<(), Fail> {
     let alloc = rt.alloc();
     let hints = hinted(alloc)?;
-    for row in PATHS.split(';') {
-        let (text, want) = row.split_once('|').unwrap_or((row, ""));
-        assert!(rt; is_read(alloc, &hints, text.as_bytes(), want)?, "{row}");
+    for (text, want) in PATHS {
+        assert!(rt; read(alloc, &hints, text.as_bytes())? == want, "{text}");
     }
-    assert!(rt; is_read(alloc, &hints, b"dc:\xE9", "BadPath")?);
+    assert!(rt; read(alloc, &hints, b"dc:\xE9")? == Err(Rule::BadPath));
     Ok(())
 }
 
@@ -101,11 +101,11 @@ fn tagged(alloc: Global, letters: usize) -> Result<String, Memory> {
 fn paths_and_tags_have_limits(rt: HostRuntime) -> Result<(), Fail> {
     let alloc = rt.alloc();
     let hints = Hints::new(alloc);
-    assert!(rt; is_read(alloc, &hints, items(alloc, 23)?.as_bytes(), "23")?);
-    assert!(rt; is_read(alloc, &hints, items(alloc, 24)?.as_bytes(), "EditDeep")?);
-    assert!(rt; is_read(alloc, &hints, items(alloc, 349_524)?.as_bytes(), "EditDeep")?);
-    assert!(rt; is_read(alloc, &hints, tagged(alloc, 100)?.as_bytes(), "1")?);
-    assert!(rt; is_read(alloc, &hints, tagged(alloc, 101)?.as_bytes(), "BadPath")?);
+    assert!(rt; read(alloc, &hints, items(alloc, 23)?.as_bytes())? == Ok(23));
+    assert!(rt; read(alloc, &hints, items(alloc, 24)?.as_bytes())? == Err(Rule::EditDeep));
+    assert!(rt; read(alloc, &hints, items(alloc, 349_524)?.as_bytes())? == Err(Rule::EditDeep));
+    assert!(rt; read(alloc, &hints, tagged(alloc, 100)?.as_bytes())? == Ok(1));
+    assert!(rt; read(alloc, &hints, tagged(alloc, 101)?.as_bytes())? == Err(Rule::BadPath));
     Ok(())
 }
 
@@ -162,23 +162,33 @@ fn properties(alloc: Global) -> Result<Members<'static>, Memory> {
     Ok(props)
 }
 
-/// Paths, each with the text at it, or `none`.
-const FOUND: &str = "\
-dc:s=other;p:s/p:f[1]=one;p:s/p:f[2]=two;p:s/p:f[En]=two;p:s/p:f[3]/?xml:lang=EN;\
-p:s/p:f[4]=none;p:s/p:f[de]=none;p:s/dc:f=none;dc:s/p:f=none;dc:s[1]=none;p:t=none";
+/// Paths, each with the text at it, if there is one.
+const FOUND: [(&str, Option<&str>); 11] = [
+    ("dc:s", Some("other")),
+    ("p:s/p:f[1]", Some("one")),
+    ("p:s/p:f[2]", Some("two")),
+    ("p:s/p:f[En]", Some("two")),
+    ("p:s/p:f[3]/?xml:lang", Some("EN")),
+    ("p:s/p:f[4]", None),
+    ("p:s/p:f[de]", None),
+    ("p:s/dc:f", None),
+    ("dc:s/p:f", None),
+    ("dc:s[1]", None),
+    ("p:t", None),
+];
 
-/// Whether the text at a path is this one; where none is there, `none` is wanted.
-fn is_found(alloc: Global, tree: &Tree<'_>, hints: &Hints, row: &str) -> bool {
-    let (path, want) = row.split_once('=').unwrap_or((row, ""));
+/// Whether the text at a path is this one, or nothing is there where none is wanted.
+fn is_found(alloc: Global, tree: &Tree<'_>, hints: &Hints, path: &str, want: Option<&str>) -> bool {
     let Ok(path) = Path::read(alloc, path.as_bytes(), hints) else {
         return false;
     };
-    match find(tree, &path) {
-        Some(value) => match &value.shape {
+    match (find(tree, &path), want) {
+        (Some(value), Some(want)) => match &value.shape {
             Shape::Simple(text) => text.bytes() == want.as_bytes(),
             _ => false,
         },
-        None => want == "none",
+        (None, None) => true,
+        _ => false,
     }
 }
 
@@ -189,8 +199,8 @@ fn values_are_found(rt: HostRuntime) -> Result<(), Fail> {
     let Some(tree) = Tree::checked(alloc, Text::raw(b""), properties(alloc)?)? else {
         return Err(Fail::from("no tree"));
     };
-    for row in FOUND.split(';') {
-        assert!(rt; is_found(alloc, &tree, &hints, row), "{row}");
+    for (path, want) in FOUND {
+        assert!(rt; is_found(alloc, &tree, &hints, path, want), "{path}");
     }
     Ok(())
 }

@@ -1,55 +1,63 @@
 //! Files of no kind, of a kind that isn't built yet, and over a limit.
 use crate::runs::{NOT_BUILT, both_refuse, run_length};
-use std::alloc::{AllocError, Global};
+use std::alloc::Global;
 use std::test::Fail;
 use xmp_values::Memory;
 
 const NOT_KNOWN: &str = "refused NotKnown file 0 0 0\n";
 
-/// Whole files of each kind that isn't built, in hexadecimal digits: the segments, directories,
-/// chunks and blocks of the later ones are set apart by `/`.
-const FILES: &str = "\
-TIFF, big-endian|4D 4D 00 2A 00 00 00 08 / 00 02 \
-01 11 00 04 00 00 00 01 00 00 00 26 01 17 00 04 00 00 00 01 00 00 00 04 00 00 00 00 / 01 02 03 04#\
-TIFF, little-endian|49 49 2A 00 08 00 00 00 / 02 00 \
-11 01 04 00 01 00 00 00 26 00 00 00 17 01 04 00 01 00 00 00 04 00 00 00 00 00 00 00 / 01 02 03 04#\
-BigTIFF, big-endian|4D 4D 00 2B 00 08 00 00 00 00 00 00 00 00 00 10 / 00 00 00 00 00 00 00 02 \
-01 11 00 04 00 00 00 00 00 00 00 01 00 00 00 48 00 00 00 00 \
-01 17 00 04 00 00 00 00 00 00 00 01 00 00 00 04 00 00 00 00 00 00 00 00 00 00 00 00 / 01 02 03 04#\
-BigTIFF, little-endian|49 49 2B 00 08 00 00 00 10 00 00 00 00 00 00 00 / 02 00 00 00 00 00 00 00 \
-11 01 04 00 01 00 00 00 00 00 00 00 48 00 00 00 00 00 00 00 \
-17 01 04 00 01 00 00 00 00 00 00 00 04 00 00 00 00 00 00 00 00 00 00 00 00 00 00 00 / 01 02 03 04#\
-WebP|52 49 46 46 20 00 00 00 57 45 42 50 / 56 50 38 58 0A 00 00 00 00 00 00 00 00 00 00 00 00 00 / \
-56 50 38 4C 02 00 00 00 01 02#\
-PSD|38 42 50 53 00 01 00 00 00 00 00 00 00 00 00 00 00 00 00 00 00 00 00 00 00 00 / \
-00 00 00 00 / 00 00 00 00 / 01 02 03 04 05 06#\
-PSB|38 42 50 53 00 02 00 00 00 00 00 00 00 00 00 00 00 00 00 00 00 00 00 00 00 00 / \
-00 00 00 00 / 00 00 00 00 / 01 02 03 04 05 06";
-
-/// The bytes of hexadecimal digits. What is no byte is passed over.
-fn bytes_of(alloc: Global, digits: &str) -> Result<Vec<u8>, AllocError> {
-    let mut file = Vec::new(alloc);
-    for byte in digits.split(' ') {
-        if let Ok(byte) = u8::from_str_radix(byte, 16) {
-            file.push(byte)?;
-        }
-    }
-    Ok(file)
-}
-
-/// Whether a row's file is of a kind that isn't built.
-fn is_not_built(alloc: Global, row: &str) -> Result<bool, Memory> {
-    let Some((_, digits)) = row.split_once('|') else {
-        return Ok(false);
-    };
-    let file = bytes_of(alloc, digits)?;
-    both_refuse(alloc, file.as_slice(), NOT_BUILT)
-}
+/// Whole files of each kind that isn't built. Each header, directory, chunk and block has a line.
+const FILES: [(&str, &[u8]); 7] = [
+    (
+        "TIFF, big-endian",
+        b"MM\x00*\x00\x00\x00\x08\
+            \x00\x02\x01\x11\x00\x04\x00\x00\x00\x01\x00\x00\x00&\x01\x17\x00\x04\x00\x00\x00\x01\x00\x00\x00\x04\x00\x00\x00\x00\
+            \x01\x02\x03\x04",
+    ),
+    (
+        "TIFF, little-endian",
+        b"II*\x00\x08\x00\x00\x00\
+            \x02\x00\x11\x01\x04\x00\x01\x00\x00\x00&\x00\x00\x00\x17\x01\x04\x00\x01\x00\x00\x00\x04\x00\x00\x00\x00\x00\x00\x00\
+            \x01\x02\x03\x04",
+    ),
+    (
+        "BigTIFF, big-endian",
+        b"MM\x00+\x00\x08\x00\x00\x00\x00\x00\x00\x00\x00\x00\x10\
+            \x00\x00\x00\x00\x00\x00\x00\x02\x01\x11\x00\x04\x00\x00\x00\x00\x00\x00\x00\x01\x00\x00\x00H\x00\x00\x00\x00\x01\x17\x00\x04\x00\x00\x00\x00\x00\x00\x00\x01\x00\x00\x00\x04\x00\x00\x00\x00\x00\x00\x00\x00\x00\x00\x00\x00\
+            \x01\x02\x03\x04",
+    ),
+    (
+        "BigTIFF, little-endian",
+        b"II+\x00\x08\x00\x00\x00\x10\x00\x00\x00\x00\x00\x00\x00\
+            \x02\x00\x00\x00\x00\x00\x00\x00\x11\x01\x04\x00\x01\x00\x00\x00\x00\x00\x00\x00H\x00\x00\x00\x00\x00\x00\x00\x17\x01\x04\x00\x01\x00\x00\x00\x00\x00\x00\x00\x04\x00\x00\x00\x00\x00\x00\x00\x00\x00\x00\x00\x00\x00\x00\x00\
+            \x01\x02\x03\x04",
+    ),
+    (
+        "WebP",
+        b"RIFF \x00\x00\x00WEBP\
+            VP8X\x0A\x00\x00\x00\x00\x00\x00\x00\x00\x00\x00\x00\x00\x00\
+            VP8L\x02\x00\x00\x00\x01\x02",
+    ),
+    (
+        "PSD",
+        b"8BPS\x00\x01\x00\x00\x00\x00\x00\x00\x00\x00\x00\x00\x00\x00\x00\x00\x00\x00\x00\x00\x00\x00\
+            \x00\x00\x00\x00\
+            \x00\x00\x00\x00\
+            \x01\x02\x03\x04\x05\x06",
+    ),
+    (
+        "PSB",
+        b"8BPS\x00\x02\x00\x00\x00\x00\x00\x00\x00\x00\x00\x00\x00\x00\x00\x00\x00\x00\x00\x00\x00\x00\
+            \x00\x00\x00\x00\
+            \x00\x00\x00\x00\
+            \x01\x02\x03\x04\x05\x06",
+    ),
+];
 
 #[test]
 fn kinds_that_are_not_built_are_refused(rt: HostRuntime) -> Result<(), Fail> {
-    for row in FILES.split('#') {
-        assert!(rt; is_not_built(rt.alloc(), row)?, "{row}");
+    for (kind, file) in FILES {
+        assert!(rt; both_refuse(rt.alloc(), file, NOT_BUILT)?, "{kind}");
     }
     Ok(())
 }
