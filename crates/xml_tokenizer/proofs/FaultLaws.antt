@@ -4,7 +4,7 @@ use Rattle.std.specs.Prelude.{is_some, codes, encode_utf8_all}
 use Rattle.std.proofs.lemmas.Bool.{eqb-true}
 use Rattle.xmp_values.specs.Characters.{is_char}
 use Rattle.xmp_values.specs.declared.rules.Rule.{Rule}
-use Rattle.xmp_values.specs.declared.rules.Rule.TheVariants.{BadChar, Doctype, BadReference}
+use Rattle.xmp_values.specs.declared.rules.Rule.TheVariants.{BadChar, Doctype, BadReference, BadTag, BadComment, BadInstruction, BadCdata}
 use Rattle.xml_grammar.specs.declared.tokens.Token.{Token}
 use Rattle.xml_grammar.specs.declared.tokens.Token.TheVariants as tokens
 use Rattle.xml_grammar.specs.Spelling.{BeginsWith}

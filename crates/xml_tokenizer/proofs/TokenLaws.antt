@@ -33,7 +33,7 @@ use Rattle.xml_tokenizer.specs.Values.{past_feed}
 use Rattle.xml_grammar.proofs.OnePiece.{stands_some}
 use Rattle.xml_tokenizer.proofs.DeclarationLaws.{declaration_takes, declaration_again}
 use Rattle.xml_tokenizer.proofs.ReferenceLaws.{reference_takes, reference_again}
-use Rattle.xml_tokenizer.proofs.SectionLaws.{comment_takes, cdata_takes, cdata_again, instruction_takes, instruction_again}
+use Rattle.xml_tokenizer.proofs.SectionLaws.{comment_takes, comment_again, cdata_takes, cdata_again, instruction_takes, instruction_again}
 use Rattle.xml_tokenizer.proofs.PlainLaws.{plain_front_all}
 use Rattle.xml_tokenizer.proofs.Steps.{or_false, not_true, bind_some, some_is, passed, either_gave}
 use Rattle.xml_tokenizer.proofs.TagLaws.{start_takes, start_again, end_takes, end_again}

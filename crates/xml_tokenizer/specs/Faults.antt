@@ -1,7 +1,7 @@
 -- The rule for a text at whose front no piece stands.
 use Rattle.std.specs.Prelude.{ℕ, List, [], ◌∷◌, ◌==◌, codes, if◌then◌else◌}
 use Rattle.xmp_values.specs.declared.rules.Rule.{Rule}
-use Rattle.xmp_values.specs.declared.rules.Rule.TheVariants.{BadChar, Doctype, BadReference, BadTag, BadInstruction, BadCdata, Unfinished}
+use Rattle.xmp_values.specs.declared.rules.Rule.TheVariants.{BadChar, Doctype, BadReference, BadTag, BadComment, BadInstruction, BadCdata, Unfinished}
 use Rattle.xml_tokenizer.specs.Runs.{begins}
 
 -- after `<`
