@@ -9,7 +9,7 @@ use xmp_base::FileSpan;
 use xmp_values::{Memory, Rule};
 
 /// The two layouts in the two byte orders: whether it is BigTIFF, and whether it is big-endian.
-const FORMS: [(bool, bool); 4] = [(false, false), (false, true), (true, false), (true, true)];
+pub const FORMS: [(bool, bool); 4] = [(false, false), (false, true), (true, false), (true, true)];
 
 /// The numbers of a file after its first four bytes.
 #[derive(Drop)]
@@ -112,6 +112,38 @@ fn one_strip(alloc: Global, form: (bool, bool)) -> Result<Vec<u8>, AllocError>
     body.file(alloc)
 }
 
+/// Five directories that don't stand in the order in which they are reached: the first names two by
+/// SubIFDs, one by Exif, and the next. It has a strip of four bytes and one of none.
+pub fn branches(alloc: Global, form: (bool, bool)) -> Result<Vec<u8>, AllocError>
+    ensures { IfOk result (λ file. BeginsTiff file.items) }
+{
+    let (wide, _) = form;
+    let (first, tables, table, long, ifd) = if wide {
+        (16, 112, 16, 16, 18)
+    } else {
+        (8, 62, 8, 4, 13)
+    };
+    let size = if wide { 16 } else { 6 };
+    let next = tables + 3 * table;
+    let strips = next + 4 * size;
+    let mut body = Body::new(alloc, form, first)?;
+    body.count(4)?;
+    body.entry(273, long, 2, tables)?;
+    body.entry(279, long, 2, tables + table)?;
+    body.entry(330, ifd, 2, tables + 2 * table)?;
+    body.entry(34665, long, 1, next + size)?;
+    body.word(next)?;
+    for number in [strips, strips, 4, 0, next + 3 * size, next + 2 * size] {
+        body.word(number)?;
+    }
+    for _ in 0..4 {
+        body.count(0)?;
+        body.word(0)?;
+    }
+    body.put(0x5a5a_5a5a, 4)?;
+    body.file(alloc)
+}
+
 /// Walks the first bytes of a file.
 fn walk_front(alloc: Global, file: &[u8], len: usize) -> Result<Walked, Memory>
     requires begins { BeginsTiff file.now }
@@ -138,9 +170,10 @@ fn walk_chain(alloc: Global, form: (bool, bool), count: u64) -> Result<Walked, M
     walked(alloc, file.as_slice())
 }
 
-/// Walks a BigTIFF of one directory of so many empty entries.
-fn walk_long(alloc: Global, big: bool, count: u64) -> Result<Walked, Memory> {
-    let mut body = Body::new(alloc, (true, big), 16)?;
+/// Walks a file of one directory of so many entries of one byte.
+fn walk_long(alloc: Global, form: (bool, bool), count: u64) -> Result<Walked, Memory> {
+    let (wide, _) = form;
+    let mut body = Body::new(alloc, form, if wide { 16 } else { 8 })?;
     body.count(count)?;
     for _ in 0..count {
         body.entry(256, 1, 1, 0)?;
@@ -183,8 +216,10 @@ fn faults_in_their_order(rt: HostRuntime) -> Result<(), Fail> {
         } else {
             (10, 12, 38, 50, 4)
         };
+        // The header's end, and the length of a packet that stands apart from its entry.
+        let (header, apart, zeros) = if wide { (16, 12, 14) } else { (8, 8, 10) };
         let none = |rule: Rule, place: u64| -> Walked { Err((rule, place, 0, 0)) };
-        let cases: [(&[(u64, u64, u64, u64)], u64, u32, Walked); 12] = [
+        let cases: [(&[(u64, u64, u64, u64)], u64, u32, Walked); 18] = [
             (
                 &[(273, long, 1, two), (279, long, 1, 4)],
                 0,
@@ -249,11 +284,51 @@ fn faults_in_their_order(rt: HostRuntime) -> Result<(), Fail> {
                 &[
                     (273, long, 1, three),
                     (279, long, 1, 4),
-                    (700, 1, 9, three + 2),
+                    (700, 1, apart, three + 2),
                 ],
                 0,
-                11,
+                zeros,
                 Err((Rule::Overlap, three + 2, three, 4)),
+            ),
+            (
+                &[
+                    (273, long, 1, three),
+                    (279, long, 1, 4),
+                    (34377, 7, apart, three + 2),
+                ],
+                0,
+                zeros,
+                Err((Rule::Overlap, three + 2, three, 4)),
+            ),
+            (
+                &[(256, 1, 1, 0), (700, 1, apart, two), (700, 1, 1, 0)],
+                0,
+                zeros,
+                none(Rule::TwoPackets, first + 2 * entry),
+            ),
+            (
+                &[(273, long, 1, two), (279, long, 1, 4)],
+                header,
+                4,
+                none(Rule::DirectoryTwice, header),
+            ),
+            (
+                &[(330, long, 1, header), (256, 1, 1, 0)],
+                3,
+                0,
+                none(Rule::DirectoryTwice, header),
+            ),
+            (
+                &[(325, long, 1, 5), (324, long, 1, two)],
+                0,
+                4,
+                none(Rule::RegionOut, first + entry),
+            ),
+            (
+                &[(513, long, 1, two), (514, long, 1, 4)],
+                0,
+                4,
+                Ok((1, 2, 1)),
             ),
             (
                 &[(273, long, 1, 0), (279, long, 1, 1), (34377, 7, 9, three)],
@@ -308,10 +383,12 @@ fn many_directories(rt: HostRuntime) -> Result<(), Fail> {
 
 #[test]
 fn many_entries(rt: HostRuntime) -> Result<(), Fail> {
+    for form in FORMS {
+        assert_eq!(rt; walk_long(rt.alloc(), form, 65_535)?, Ok((1, 65_535, 0)));
+    }
     for big in [false, true] {
-        assert_eq!(rt; walk_long(rt.alloc(), big, 65_535)?, Ok((1, 65_535, 0)));
         assert_eq!(rt;
-            walk_long(rt.alloc(), big, 65_536)?,
+            walk_long(rt.alloc(), (true, big), 65_536)?,
             Err((Rule::DirectoryLong, 16, 65_536, 65_535))
         );
     }
@@ -344,6 +421,31 @@ fn entries_and_pictures(rt: HostRuntime) -> Result<(), Fail> {
         assert_eq!(rt; dirs.entry(0, 0), entry);
         assert_eq!(rt; dirs.first_tag(273), Some(entry));
         assert_eq!(rt; dirs.picture(0), span(strip, strip + 4));
+    }
+    Ok(())
+}
+
+#[test]
+fn reached_in_order(rt: HostRuntime) -> Result<(), Fail> {
+    for form in FORMS {
+        let (wide, _) = form;
+        let (places, strip) = if wide {
+            ([16, 208, 192, 176, 160], 224)
+        } else {
+            ([8, 104, 98, 92, 86], 110)
+        };
+        let file = branches(rt.alloc(), form)?;
+        let dirs = Dirs::walk(rt.alloc(), file.as_slice())?;
+        assert_eq!(rt; dirs.directories(), 5);
+        for dir in 0..5 {
+            assert_eq!(rt; dirs.at(dir), places[dir]);
+        }
+        assert_eq!(rt; dirs.pictures(), 1);
+        let range = FileSpan {
+            start: strip,
+            end: strip + 4,
+        };
+        assert_eq!(rt; dirs.picture(0), range);
     }
     Ok(())
 }
