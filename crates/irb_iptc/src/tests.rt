@@ -89,13 +89,29 @@ fn faults_of_blocks(rt: HostRuntime) -> Result<(), Fail> {
     Ok(())
 }
 
+/// The digest of the block of the keyword `cat`.
+const CAT_DIGEST: &[u8] = b"\x8d\xa2\x63\xab\xad\xdb\x13\x0c\x60\x5d\x9c\xf7\x84\x21\xe4\xad";
+
 #[test]
-fn digest_of_abc(rt: HostRuntime) -> Result<(), Fail> {
-    let digest: [u8; 16] = [
-        0x90, 0x01, 0x50, 0x98, 0x3c, 0xd2, 0x4f, 0xb0, 0xd6, 0x96, 0x3f, 0x7d, 0x28, 0xe1, 0x7f,
-        0x72,
+fn digests_of_blocks(rt: HostRuntime) -> Result<(), Fail> {
+    let cases: [(&[u8], &[u8]); 4] = [
+        (
+            b"abc",
+            b"\x90\x01\x50\x98\x3c\xd2\x4f\xb0\xd6\x96\x3f\x7d\x28\xe1\x7f\x72",
+        ),
+        (b"\x1c\x02\x19\0\x03cat", CAT_DIGEST),
+        (
+            b"\x1c\x02\x19\0\x03dog",
+            b"\xce\xef\xd1\x70\x0f\x37\x28\x7d\xc3\xc9\xd9\x80\xcb\x5c\x21\x53",
+        ),
+        (
+            b"\x1c\x02\x19\0\x03cat\x1c\x02\x19\0\x03sea\x1c\x02\x19\0\x03cat",
+            b"\x2d\x51\x93\x28\x8f\xa4\x3b\xa0\xa7\x28\x00\x49\x44\xa0\x1d\x95",
+        ),
     ];
-    assert_eq!(rt; digest_of(b"abc"), digest);
+    for (block, digest) in cases {
+        assert_eq!(rt; digest_of(block).as_slice(), digest, "of {block:?}");
+    }
     Ok(())
 }
 
@@ -115,15 +131,12 @@ fn renew(alloc: Global, list: &mut [u8], digest: &[u8; 16]) -> Result<bool, Memo
 
 #[test]
 fn the_stored_digest_is_renewed(rt: HostRuntime) -> Result<(), Fail> {
-    let digest: [u8; 16] = [
-        0x8d, 0xa2, 0x63, 0xab, 0xac, 0xda, 0x42, 0x1e, 0x4a, 0xd9, 0xcf, 0x78, 0x42, 0x1e, 0x4a,
-        0xd0,
-    ];
+    let digest = digest_of(&LIST[12..20]);
     let mut list = Vec::from_slice(rt.alloc(), LIST)?;
     assert!(rt; renew(rt.alloc(), list.as_mut_slice(), &digest)?);
     let (front, stored) = list.as_slice().split_at(32);
     assert_eq!(rt; front, &LIST[..32]);
-    assert_eq!(rt; stored, digest.as_slice());
+    assert_eq!(rt; stored, CAT_DIGEST);
     Ok(())
 }
 
@@ -146,10 +159,5 @@ fn a_fault_of_the_block_in_a_list(rt: HostRuntime) -> Result<(), Fail> {
         count_of(rt.alloc(), &list[12..])?,
         Err((Rule::DatasetOut, 0))
     );
-    let digest: [u8; 16] = [
-        0xce, 0xef, 0xd1, 0x70, 0x0f, 0x37, 0x28, 0x7d, 0xc3, 0xc9, 0xd9, 0x80, 0xcb, 0x5c, 0x21,
-        0x53,
-    ];
-    assert_eq!(rt; digest_of(b"\x1c\x02\x19\0\x03dog"), digest);
     Ok(())
 }

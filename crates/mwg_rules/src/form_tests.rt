@@ -1,10 +1,13 @@
 //! What a value of each form becomes.
 use crate::reconcile;
-use crate::samples::{choices, tree_of};
-use std::alloc::Global;
-use std::test::Fail;
+use crate::samples::Held::{Languages, List, Simple};
+use crate::samples::{
+    Beside, CITY, CREATOR, DATE_CREATED, DESCRIPTION, LABELLED, PLAIN, SOURCE, SUBJECT, Sample,
+    Stored, choices, tree_of,
+};
+use std::process::Abort;
+use xmp_tree::Kind::{Bag, Seq};
 use xmp_tree::equal;
-use xmp_values::Memory;
 
 /// City `Oslo`.
 const OSLO: &[u8] = b"\x1c\x02\x5a\0\x04Oslo";
@@ -16,128 +19,240 @@ const AUTHOR: &[u8] = b"\x1c\x02\x50\0\x03Ann";
 const SEA: &[u8] = b"\x1c\x02\x78\0\x03Sea";
 /// Date created 2021-03-04.
 const DAY: &[u8] = b"\x1c\x02\x37\0\x0820210304";
+/// Date created 2021-03-04, 05:06:07 an hour before UTC.
+const HOUR: &[u8] = b"\x1c\x02\x37\0\x0820210304\x1c\x02\x3c\0\x0b050607+0100";
 
-/// Blocks, and properties before and after. What is replaced keeps its place and loses its
-/// qualifiers, and what is new comes last.
-const ROWS: [(&[u8], &str, &str); 26] = [
+/// A block, and properties before and after.
+type Row = (&'static [u8], &'static [Sample], &'static [Sample]);
+
+/// A property that isn't one of the twelve.
+const OTHER: Sample = (SOURCE, Simple("x"), LABELLED);
+
+/// What is replaced keeps its place and loses its qualifiers, and what is new comes last.
+const TEXTS: [Row; 6] = [
+    (OSLO, &[OTHER], &[OTHER, (CITY, Simple("Oslo"), PLAIN)]),
     (
         OSLO,
-        "dc:source text x",
-        "dc:source text x;photoshop:City text Oslo",
+        &[(CITY, Simple("Oslo"), LABELLED), OTHER],
+        &[(CITY, Simple("Oslo"), LABELLED), OTHER],
     ),
     (
         OSLO,
-        "photoshop:City text? Oslo;dc:source text? x",
-        "photoshop:City text? Oslo;dc:source text? x",
+        &[(CITY, Simple("Rome"), LABELLED), OTHER],
+        &[(CITY, Simple("Oslo"), PLAIN), OTHER],
+    ),
+    // Blank, and without items.
+    (
+        OSLO,
+        &[(CITY, Simple(" "), PLAIN)],
+        &[(CITY, Simple("Oslo"), PLAIN)],
     ),
     (
         OSLO,
-        "photoshop:City text? Rome;dc:source text? x",
-        "photoshop:City text Oslo;dc:source text? x",
+        &[(CITY, List(Seq, &[]), LABELLED), OTHER],
+        &[(CITY, Simple("Oslo"), PLAIN), OTHER],
     ),
-    (OSLO, "photoshop:City text  ", "photoshop:City text Oslo"),
-    (OSLO, "photoshop:City bag Oslo", "photoshop:City text Oslo"),
-    (KEYWORDS, "", "dc:subject bag cat,sea"),
+    (
+        OSLO,
+        &[(CITY, List(Bag, &["Oslo"]), PLAIN)],
+        &[(CITY, Simple("Oslo"), PLAIN)],
+    ),
+];
+
+/// The keywords as they are put.
+const CAT_SEA: Sample = (SUBJECT, List(Bag, &["cat", "sea"]), PLAIN);
+
+/// Lists: the order, the number and the kind count, qualifiers don't.
+const LISTS: [Row; 11] = [
+    (KEYWORDS, &[], &[CAT_SEA]),
     (
         KEYWORDS,
-        "dc:subject bag? cat,sea",
-        "dc:subject bag? cat,sea",
+        &[(SUBJECT, List(Bag, &["cat", "sea"]), LABELLED)],
+        &[(SUBJECT, List(Bag, &["cat", "sea"]), LABELLED)],
     ),
     (
         KEYWORDS,
-        "dc:subject bag? sea,cat;dc:source text x",
-        "dc:subject bag cat,sea;dc:source text x",
+        &[(SUBJECT, List(Bag, &["sea", "cat"]), LABELLED), OTHER],
+        &[CAT_SEA, OTHER],
     ),
     (
         KEYWORDS,
-        "dc:subject bag cat,sea,dog",
-        "dc:subject bag cat,sea",
-    ),
-    (KEYWORDS, "dc:subject bag cat", "dc:subject bag cat,sea"),
-    (KEYWORDS, "dc:subject bag ", "dc:subject bag cat,sea"),
-    (KEYWORDS, "dc:subject seq cat,sea", "dc:subject bag cat,sea"),
-    (KEYWORDS, "dc:subject text cat", "dc:subject bag cat,sea"),
-    (AUTHOR, "dc:creator bag Ann", "dc:creator seq Ann"),
-    (
-        SEA,
-        "dc:source text x",
-        "dc:source text x;dc:description alt x-default=Sea",
+        &[(SUBJECT, List(Bag, &["cat", "sea", "dog"]), PLAIN)],
+        &[CAT_SEA],
     ),
     (
+        KEYWORDS,
+        &[(SUBJECT, List(Bag, &["cat"]), PLAIN)],
+        &[CAT_SEA],
+    ),
+    (KEYWORDS, &[(SUBJECT, List(Bag, &[]), LABELLED)], &[CAT_SEA]),
+    (
+        KEYWORDS,
+        &[(SUBJECT, List(Seq, &["cat", "sea"]), PLAIN)],
+        &[CAT_SEA],
+    ),
+    (KEYWORDS, &[(SUBJECT, Simple("cat"), PLAIN)], &[CAT_SEA]),
+    (KEYWORDS, &[(SUBJECT, Simple("\t"), PLAIN)], &[CAT_SEA]),
+    (
+        AUTHOR,
+        &[(CREATOR, List(Bag, &["Ann"]), PLAIN)],
+        &[(CREATOR, List(Seq, &["Ann"]), PLAIN)],
+    ),
+    (
+        AUTHOR,
+        &[(CREATOR, List(Seq, &["Ann"]), LABELLED)],
+        &[(CREATOR, List(Seq, &["Ann"]), LABELLED)],
+    ),
+];
+
+/// The caption as it is put.
+const ALONE: Sample = (
+    DESCRIPTION,
+    Languages(&[("x-default", "Sea", PLAIN)]),
+    PLAIN,
+);
+
+/// Languages: the first text of the default language counts.
+const LANGUAGES: [Row; 8] = [
+    (SEA, &[OTHER], &[OTHER, ALONE]),
+    (
         SEA,
-        "dc:description alt? en=Lake,X-Default=Sea",
-        "dc:description alt? en=Lake,X-Default=Sea",
+        &[(
+            DESCRIPTION,
+            Languages(&[("en", "Lake", PLAIN), ("X-Default", "Sea", LABELLED)]),
+            LABELLED,
+        )],
+        &[(
+            DESCRIPTION,
+            Languages(&[("en", "Lake", PLAIN), ("X-Default", "Sea", LABELLED)]),
+            LABELLED,
+        )],
     ),
     (
         SEA,
-        "dc:description alt? en=Lake,X-DEFAULT=Lac,x-default=Sea",
-        "dc:description alt? en=Lake,x-default=Sea,x-default=Sea",
+        &[(
+            DESCRIPTION,
+            Languages(&[
+                ("en", "Lake", LABELLED),
+                ("X-DEFAULT", "Lac", LABELLED),
+                ("x-default", "Sea", LABELLED),
+            ]),
+            LABELLED,
+        )],
+        &[(
+            DESCRIPTION,
+            Languages(&[
+                ("en", "Lake", LABELLED),
+                ("x-default", "Sea", PLAIN),
+                ("x-default", "Sea", LABELLED),
+            ]),
+            LABELLED,
+        )],
     ),
     (
         SEA,
-        "dc:description alt en=Lake,de=See",
-        "dc:description alt x-default=Sea,en=Lake,de=See",
+        &[(
+            DESCRIPTION,
+            Languages(&[("en", "Lake", PLAIN), ("de", "See", PLAIN)]),
+            PLAIN,
+        )],
+        &[(
+            DESCRIPTION,
+            Languages(&[
+                ("x-default", "Sea", PLAIN),
+                ("en", "Lake", PLAIN),
+                ("de", "See", PLAIN),
+            ]),
+            PLAIN,
+        )],
     ),
+    // Without items, and blank.
+    (SEA, &[(DESCRIPTION, Languages(&[]), PLAIN)], &[ALONE]),
+    (SEA, &[(DESCRIPTION, Simple("  "), LABELLED)], &[ALONE]),
     (
         SEA,
-        "dc:description alt ",
-        "dc:description alt x-default=Sea",
+        &[(DESCRIPTION, List(Bag, &["Sea"]), LABELLED)],
+        &[ALONE],
     ),
+    (SEA, &[(DESCRIPTION, Simple("Sea"), LABELLED)], &[ALONE]),
+];
+
+/// The day as it is put.
+const PUT: Sample = (DATE_CREATED, Simple("2021-03-04"), PLAIN);
+
+/// The day with an hour, as it is put.
+const PUT_HOUR: Sample = (DATE_CREATED, Simple("2021-03-04T05:06:07+01:00"), PLAIN);
+
+/// Dates: one that says more stays, but not with another zone.
+const DATES: [Row; 9] = [
     (
-        SEA,
-        "dc:description bag? Sea",
-        "dc:description alt x-default=Sea",
-    ),
-    (
-        SEA,
-        "dc:description text? Sea",
-        "dc:description alt x-default=Sea",
+        DAY,
+        &[(DATE_CREATED, Simple("2021-03-04"), LABELLED)],
+        &[(DATE_CREATED, Simple("2021-03-04"), LABELLED)],
     ),
     (
         DAY,
-        "photoshop:DateCreated text? 2021-03-04",
-        "photoshop:DateCreated text? 2021-03-04",
+        &[(DATE_CREATED, Simple("2021-03-04T05:06:07Z"), LABELLED)],
+        &[(DATE_CREATED, Simple("2021-03-04T05:06:07Z"), LABELLED)],
     ),
     (
         DAY,
-        "photoshop:DateCreated text? 2021-03-04T05:06:07Z",
-        "photoshop:DateCreated text? 2021-03-04T05:06:07Z",
+        &[(DATE_CREATED, Simple("2021-03-05"), LABELLED)],
+        &[PUT],
+    ),
+    (DAY, &[(DATE_CREATED, Simple("2021"), PLAIN)], &[PUT]),
+    (DAY, &[(DATE_CREATED, Simple(""), LABELLED)], &[PUT]),
+    (
+        DAY,
+        &[(DATE_CREATED, List(Seq, &["2021-03-04"]), PLAIN)],
+        &[PUT],
     ),
     (
         DAY,
-        "photoshop:DateCreated text? 2021-03-05",
-        "photoshop:DateCreated text 2021-03-04",
+        &[(DATE_CREATED, List(Bag, &[]), LABELLED), OTHER],
+        &[PUT, OTHER],
+    ),
+    // A zone of IPTC replaces a date without one, or with another.
+    (
+        HOUR,
+        &[(DATE_CREATED, Simple("2021-03-04T05:06:07"), LABELLED)],
+        &[PUT_HOUR],
     ),
     (
-        DAY,
-        "photoshop:DateCreated text 2021",
-        "photoshop:DateCreated text 2021-03-04",
-    ),
-    (
-        DAY,
-        "photoshop:DateCreated seq 2021-03-04",
-        "photoshop:DateCreated text 2021-03-04",
+        HOUR,
+        &[(DATE_CREATED, Simple("2021-03-04T05:06:07Z"), PLAIN)],
+        &[PUT_HOUR],
     ),
 ];
 
 /// Whether properties become others by a block whose digest isn't the stored one.
 fn becomes(
-    alloc: Global,
-    block: &[u8],
-    before: &'static str,
-    after: &'static str,
-) -> Result<bool, Memory> {
-    let tree = tree_of(alloc, before)?;
-    let chosen = choices(alloc, "", "", block, Some([0; 16]), &tree)?;
-    let made = reconcile(tree, &chosen)?;
-    let wanted = tree_of(alloc, after)?;
-    Ok(equal(&made, &wanted))
+    rt: &(impl Abort + AllocGlobal),
+    block: &'static [u8],
+    before: &[Sample],
+    after: &[Sample],
+) -> bool {
+    let beside = Beside {
+        date: "",
+        offset: "",
+        block,
+        stored: Stored::Zero,
+    };
+    let tree = tree_of(rt, before);
+    let chosen = choices(rt, &beside, &tree);
+    let made = reconcile(tree, &chosen).expect(rt, "memory");
+    equal(&made, &tree_of(rt, after))
+}
+
+/// The number of the first row that isn't so; there is none.
+fn first_wrong(rt: &(impl Abort + AllocGlobal), rows: &[Row]) -> Option<usize> {
+    rows.iter().position(|(block, before, after)| !becomes(rt, block, before, after))
 }
 
 #[test]
-fn values_become_the_preferred_ones(rt: HostRuntime) -> Result<(), Fail> {
-    for (block, before, after) in ROWS {
-        assert!(rt; becomes(rt.alloc(), block, before, after)?, "of {before}");
-    }
-    Ok(())
+fn values_become_the_preferred_ones(rt: HostRuntime) {
+    assert_eq!(rt; first_wrong(&rt, &TEXTS), None, "texts");
+    assert_eq!(rt; first_wrong(&rt, &LISTS), None, "lists");
+    assert_eq!(rt; first_wrong(&rt, &LANGUAGES), None, "languages");
+    assert_eq!(rt; first_wrong(&rt, &DATES), None, "dates");
 }

@@ -1,164 +1,198 @@
-//! Trees and choices for tests.
+//! Trees and choices for tests. Where memory runs out the test ends.
 use crate::choices::{Choices, Sources, prefer};
 use exif_fields::{ExifFields, RawExif, fields};
 use irb_iptc::{Datasets, digest_of};
 use std::alloc::Global;
+use std::process::Abort;
 use xmp_tree::{Items, Kind, Member, Members, Shape, Tree, Value};
-use xmp_values::{Memory, Name, Text};
+use xmp_values::{Name, Text};
 
-/// The namespace of a prefix.
-fn space_of(prefix: &str) -> &'static str {
-    if prefix == "dc" {
-        return "http://purl.org/dc/elements/1.1/";
-    }
-    if prefix == "photoshop" {
-        return "http://ns.adobe.com/photoshop/1.0/";
-    }
-    "http://ns.adobe.com/xap/1.0/"
+/// A namespace and a local part.
+pub type Named = (&'static str, &'static str);
+
+const DC: &str = "http://purl.org/dc/elements/1.1/";
+
+const PHOTOSHOP: &str = "http://ns.adobe.com/photoshop/1.0/";
+
+pub const DESCRIPTION: Named = (DC, "description");
+
+pub const CREATOR: Named = (DC, "creator");
+
+pub const SUBJECT: Named = (DC, "subject");
+
+pub const SOURCE: Named = (DC, "source");
+
+pub const FORMAT: Named = (DC, "format");
+
+pub const DATE_CREATED: Named = (PHOTOSHOP, "DateCreated");
+
+pub const CITY: Named = (PHOTOSHOP, "City");
+
+const LABEL: Named = ("http://ns.adobe.com/xap/1.0/", "Label");
+
+const LANG: Named = ("http://www.w3.org/XML/1998/namespace", "lang");
+
+/// Whether a value has a qualifier.
+pub const LABELLED: bool = true;
+
+pub const PLAIN: bool = false;
+
+/// What a property holds. The items of a list have a qualifier where the list has one; a text of a
+/// language has its tag, the text, and whether it has one more.
+#[derive(Clone, Copy)]
+pub enum Held {
+    Simple(&'static str),
+    List(Kind, &'static [&'static str]),
+    Languages(&'static [(&'static str, &'static str, bool)]),
 }
 
-fn named(space: &'static str, local: &'static str, value: Value<'static>) -> Member<'static> {
-    let name = Name {
-        space: Text::raw(space.as_bytes()),
-        local: Text::raw(local.as_bytes()),
-    };
+/// A property, what it holds, and whether it has a qualifier.
+pub type Sample = (Named, Held, bool);
+
+/// The digest that is stored for a block.
+#[derive(Clone, Copy)]
+pub enum Stored {
+    Nothing,
+    /// The block's own.
+    Same,
+    /// 16 zero bytes.
+    Zero,
+}
+
+/// What stands beside a tree: Exif's DateTimeOriginal and its offset, and a block with the digest
+/// that is stored for it. Where there is no block its digest is missing too.
+#[derive(Clone, Copy)]
+pub struct Beside {
+    pub date: &'static str,
+    pub offset: &'static str,
+    pub block: &'static [u8],
+    pub stored: Stored,
+}
+
+fn member(named: Named, value: Value<'static>) -> Member<'static> {
+    let (space, local) = named;
+    let space = Text::raw(space.as_bytes());
+    let local = Text::raw(local.as_bytes());
+    let name = Name { space, local };
     Member { name, value }
 }
 
 fn simple(text: &'static str, quals: Members<'static>) -> Value<'static> {
-    Value {
-        shape: Shape::Simple(Text::raw(text.as_bytes())),
-        quals,
-    }
+    let shape = Shape::Simple(Text::raw(text.as_bytes()));
+    Value { shape, quals }
 }
 
-fn array(kind: Kind, items: Items<'static>, quals: Members<'static>) -> Value<'static> {
-    Value {
-        shape: Shape::Array(kind, items),
-        quals,
-    }
+/// Members with one more, a plain text.
+fn with_text(
+    rt: &(impl Abort + AllocGlobal),
+    members: Members<'static>,
+    named: Named,
+    text: &'static str,
+) -> Members<'static> {
+    let mut members = members;
+    let value = simple(text, Members::new(rt.alloc()));
+    members.push(member(named, value)).expect(rt, "memory");
+    members
 }
 
-/// No qualifiers, or one.
-fn labels(alloc: Global, labelled: bool) -> Result<Members<'static>, Memory> {
-    let mut quals = Members::new(alloc);
+/// Qualifiers with one more, or as they are.
+fn labels(
+    rt: &(impl Abort + AllocGlobal),
+    quals: Members<'static>,
+    labelled: bool,
+) -> Members<'static> {
     if labelled {
-        let label = simple("q", Members::new(alloc));
-        quals.push(named("http://ns.adobe.com/xap/1.0/", "Label", label))?;
+        with_text(rt, quals, LABEL, "q")
+    } else {
+        quals
     }
-    Ok(quals)
 }
 
-/// Texts that commas part.
-fn items_of(alloc: Global, texts: &'static str, labelled: bool) -> Result<Items<'static>, Memory> {
-    let mut items = Items::new(alloc);
-    if texts.is_empty() {
-        return Ok(items);
+fn items_of(
+    rt: &(impl Abort + AllocGlobal),
+    texts: &[&'static str],
+    labelled: bool,
+) -> Items<'static> {
+    let mut items = Items::new(rt.alloc());
+    for text in texts {
+        let quals = labels(rt, Members::new(rt.alloc()), labelled);
+        items.push(simple(text, quals)).expect(rt, "memory");
     }
-    for text in texts.split(',') {
-        items.push(simple(text, labels(alloc, labelled)?))?;
-    }
-    Ok(items)
+    items
 }
 
-/// A text of a language.
-fn spoken(alloc: Global, tag: &'static str, text: &'static str) -> Result<Value<'static>, Memory> {
-    let mut quals = Members::new(alloc);
-    let lang = simple(tag, Members::new(alloc));
-    quals.push(named("http://www.w3.org/XML/1998/namespace", "lang", lang))?;
-    Ok(simple(text, quals))
+fn languages_of(
+    rt: &(impl Abort + AllocGlobal),
+    texts: &[(&'static str, &'static str, bool)],
+) -> Items<'static> {
+    let mut items = Items::new(rt.alloc());
+    for (tag, text, labelled) in texts {
+        let quals = with_text(rt, Members::new(rt.alloc()), LANG, tag);
+        let quals = labels(rt, quals, *labelled);
+        items.push(simple(text, quals)).expect(rt, "memory");
+    }
+    items
 }
 
-/// Texts of languages, `en=Sea`, that commas part.
-fn spoken_items(alloc: Global, texts: &'static str) -> Result<Items<'static>, Memory> {
-    let mut items = Items::new(alloc);
-    for text in texts.split(',') {
-        if let Some((tag, said)) = text.split_once('=') {
-            items.push(spoken(alloc, tag, said)?)?;
+fn value_of(rt: &(impl Abort + AllocGlobal), held: Held, labelled: bool) -> Value<'static> {
+    let quals = labels(rt, Members::new(rt.alloc()), labelled);
+    match held {
+        Held::Simple(text) => simple(text, quals),
+        Held::List(kind, texts) => {
+            let shape = Shape::Array(kind, items_of(rt, texts, labelled));
+            Value { shape, quals }
+        }
+        Held::Languages(texts) => {
+            let shape = Shape::Array(Kind::Alt, languages_of(rt, texts));
+            Value { shape, quals }
         }
     }
-    Ok(items)
 }
 
-/// A value by its kind, which a question mark gives a qualifier.
-fn value_of(alloc: Global, kind: &str, text: &'static str) -> Result<Value<'static>, Memory> {
-    let labelled = kind.ends_with('?');
-    let quals = labels(alloc, labelled)?;
-    if kind.starts_with("text") {
-        return Ok(simple(text, quals));
+/// A tree of these properties.
+pub fn tree_of(rt: &(impl Abort + AllocGlobal), properties: &[Sample]) -> Tree<'static> {
+    let mut members = Members::new(rt.alloc());
+    for (named, held, labelled) in properties {
+        let value = value_of(rt, *held, *labelled);
+        members.push(member(*named, value)).expect(rt, "memory");
     }
-    if kind.starts_with("alt") {
-        return Ok(array(Kind::Alt, spoken_items(alloc, text)?, quals));
-    }
-    let items = items_of(alloc, text, labelled)?;
-    if kind.starts_with("bag") {
-        return Ok(array(Kind::Bag, items, quals));
-    }
-    Ok(array(Kind::Seq, items, quals))
+    let tree = Tree::checked(rt.alloc(), Text::raw(b""), members).expect(rt, "memory");
+    tree.expect(rt, "well-formed")
 }
 
-/// A property, `dc:subject bag cat,sea`.
-fn member_of(alloc: Global, row: &'static str) -> Result<Option<Member<'static>>, Memory> {
-    let Some((name, rest)) = row.split_once(' ') else {
-        return Ok(None);
-    };
-    let Some((prefix, local)) = name.split_once(':') else {
-        return Ok(None);
-    };
-    let Some((kind, text)) = rest.split_once(' ') else {
-        return Ok(None);
-    };
-    let value = value_of(alloc, kind, text)?;
-    Ok(Some(named(space_of(prefix), local, value)))
+fn exif_of(rt: &(impl Abort + AllocGlobal), beside: &Beside) -> ExifFields {
+    let mut raw = RawExif::new(rt.alloc());
+    raw.take(0x9003, beside.date.as_bytes())
+        .expect(rt, "memory");
+    raw.take(0x9011, beside.offset.as_bytes())
+        .expect(rt, "memory");
+    fields(rt.alloc(), &raw).expect(rt, "memory")
 }
 
-fn members_of(alloc: Global, rows: &'static str) -> Result<Members<'static>, Memory> {
-    let mut members = Members::new(alloc);
-    for row in rows.split(';') {
-        if let Some(member) = member_of(alloc, row)? {
-            members.push(member)?;
-        }
-    }
-    Ok(members)
-}
-
-/// A tree of properties that semicolons part.
-pub fn tree_of(alloc: Global, rows: &'static str) -> Result<Tree<'static>, Memory> {
-    let members = members_of(alloc, rows)?;
-    match Tree::checked(alloc, Text::raw(b""), members)? {
-        Some(tree) => Ok(tree),
-        None => Err(Memory),
+/// The digest of a block that is there.
+fn digest_if(block: &[u8]) -> Option<[u8; 16]> {
+    if block.is_empty() {
+        None
+    } else {
+        Some(digest_of(block))
     }
 }
 
-/// Exif's values by DateTimeOriginal and its offset.
-fn exif_of(alloc: Global, date: &str, offset: &str) -> Result<ExifFields, Memory> {
-    let mut raw = RawExif::new(alloc);
-    raw.take(0x9003, date.as_bytes())?;
-    raw.take(0x9011, offset.as_bytes())?;
-    fields(alloc, &raw)
+fn stored_of(beside: &Beside) -> Option<[u8; 16]> {
+    match beside.stored {
+        Stored::Nothing => None,
+        Stored::Same => digest_if(beside.block),
+        Stored::Zero => Some([0; 16]),
+    }
 }
 
-/// The choices for a tree by Exif's date and offset, and by an IPTC block with the digest that is
-/// stored for it.
-pub fn choices(
-    alloc: Global,
-    date: &str,
-    offset: &str,
-    block: &[u8],
-    stored: Option<[u8; 16]>,
-    tree: &Tree<'_>,
-) -> Result<Choices, Memory> {
-    let exif = exif_of(alloc, date, offset)?;
-    let Ok(iptc) = Datasets::of(alloc, block) else {
-        return Err(Memory);
-    };
-    let block = Some(digest_of(block));
+/// The choices for a tree.
+pub fn choices(rt: &(impl Abort + AllocGlobal), beside: &Beside, tree: &Tree<'_>) -> Choices {
     let sources = Sources {
-        exif,
-        iptc,
-        stored,
-        block,
+        exif: exif_of(rt, beside),
+        iptc: Datasets::of(rt.alloc(), beside.block).expect(rt, "datasets"),
+        stored: stored_of(beside),
+        block: digest_if(beside.block),
     };
-    prefer(alloc, &sources, tree)
+    prefer(rt.alloc(), &sources, tree).expect(rt, "memory")
 }
