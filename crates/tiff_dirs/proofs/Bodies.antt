@@ -7,7 +7,7 @@ use Rattle.xmp_base.specs.Device.{DeskState, Told, bytes_of}
 use Rattle.xmp_base.specs.Windows.{ReadInside}
 use Rattle.tiff_dirs.specs.declared.layout.Layout.{Layout}
 use Rattle.tiff_dirs.specs.declared.entry.Entry.{Entry}
-use Rattle.tiff_dirs.specs.declared.directory.Directory.{Directory}
+use Rattle.tiff_dirs.specs.declared.directory.Reached.{Reached}
 use Rattle.tiff_dirs.specs.Numbers.{number}
 use Rattle.tiff_dirs.specs.Layouts.{Widths}
 use Rattle.tiff_dirs.specs.Directories.{span, named, chained, count_at, end_at, entries_at, entries_from}
@@ -38,16 +38,16 @@ module _ (l : Layout) (file bytes : List ℕ) (at n : ℕ) (is : bytes ≡ take 
 pub is_part : (file bytes : List ℕ) (start size : ℕ) → length bytes ≡ size → bytes ≡ take size (drop start file) → IsPart bytes start file
 is_part file bytes start size e is = is ∙ ap (λ (n : ℕ). take n (drop start file)) (sym e)
 
-pub body_known : (l : Layout) (file : List ℕ) (first : Bool) (at n len next end : ℕ) (old new : List ℕ) (seen shown : List FileSpan) (d : Directory) (items : List Entry) → length file ≡ len
+pub body_known : (l : Layout) (file : List ℕ) (first : Bool) (at n len next end : ℕ) (old new : List ℕ) (seen shown : List FileSpan) (d : Reached) (items : List Entry) → length file ≡ len
     → n ≡ count_at l file at → items ≡ entries_at l file at → entries_fault l len first false items ≡ None
     → (shown ≡ seen ++ spans_of (pictures_of l file items)) × (pictures_fault len (pictures_of l file items) ≡ None)
     → next ≡ number l.big l.word (at + l.count + l.entry * n) file → new ≡ capped (old ++ (flat_map (named l file) items ++ chained next))
-    → d.at ≡ at → d.end ≡ at + l.count + l.entry * n + l.word → d.entries.items ≡ items → Body l file first at old new seen shown d
+    → d.at ≡ at → d.end ≡ at + l.count + l.entry * n + l.word → d.count ≡ n → Body l file first at old new seen shown d
 body_known l file first at n len next end old new seen shown d items size count e none p c r o z i = record {
   clear = subst (λ (es : List Entry). inner_fault l file first es ≡ None) e (body_clear l file len first items size none p.1);
   offset = o;
   end = z ∙ ap (λ (k : ℕ). at + l.count + l.entry * k + l.word) count;
-  entries = i ∙ e;
+  count = i ∙ count;
   reached = r ∙ ap (λ (t : List ℕ). capped (old ++ t)) (children_are l file at n next items count e c);
   pictures = p.0 ∙ ap (λ (es : List Entry). seen ++ spans_of (pictures_of l file es)) e;
 }

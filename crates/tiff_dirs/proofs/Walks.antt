@@ -14,7 +14,7 @@ use Rattle.tiff_dirs.specs.Offsets.{all_named, Reaches, Walks}
 use Rattle.tiff_dirs.specs.Tables.{IsAmong, Reads, tables_at, tables_of}
 use Rattle.tiff_dirs.specs.FromDesk.{WalkReads}
 use Rattle.tiff_dirs.proofs.Loads.{reads_trans, reads_wider}
-use Rattle.tiff_dirs.specs.declared.directory.Directory.{Directory}
+use Rattle.tiff_dirs.specs.declared.directory.Reached.{Reached}
 use Rattle.tiff_dirs.specs.Walking.{Underway}
 use Rattle.tiff_dirs.proofs.Reaching.{next_named}
 use Rattle.tiff_dirs.proofs.Unique.{front_of, next_of}
@@ -153,7 +153,7 @@ walk_head s t u name l n a few b double is =
     (walk_header t u name l.word (l.word + l.word) b (λ files told offsets w. let header = ap (λ (m : Layout). m.header) (is files (sym a.same.files ∙ told)) in omega (arith, header, double)))
 
 -- the next directory, whatever comes of it
-pub walk_next : (s t u : DeskState) (name : List ℕ) (l : Layout) (items : List ℕ) (found : List Directory) (pictures : List FileSpan) → length found < length items
+pub walk_next : (s t u : DeskState) (name : List ℕ) (l : Layout) (items : List ℕ) (found : List Reached) (pictures : List FileSpan) → length found < length items
     → Reads s t name (λ file. tables_of l file (take (length found) items)) → Reads t u name (λ file. tables_at l file (get_or items (length found) 0))
     → Told s.files (λ files. l ≡ layout_of (bytes_of files name)) → Told s.files (λ files. Underway l (bytes_of files name) items found pictures) → WalkReads s u name
 walk_next s t u name l items found pictures within a b is under =

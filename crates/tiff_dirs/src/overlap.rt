@@ -130,8 +130,8 @@ impl Dirs {
     {
         let directory = &self.found[dir];
         FileSpan {
-            start: directory.at,
-            end: directory.end,
+            start: directory.place.at,
+            end: directory.place.end,
         }
     }
 

@@ -1,4 +1,4 @@
-use Rattle.std.proofs.Common.{◌≡◌, ◌+◌, ◌*◌, ◌++◌, false, List, sym, ap, subst, refl, ◌∙◌, None}
+use Rattle.std.proofs.Common.{◌≡◌, ◌+◌, ◌*◌, ◌++◌, false, List, length, sym, ap, subst, refl, ◌∙◌, None}
 use Rattle.std.specs.List.{flat_map}
 use Rattle.xmp_base.specs.Device.{bytes_of}
 use Rattle.tiff_dirs.specs.declared.entry.Entry.{Entry}
@@ -10,7 +10,7 @@ use Rattle.tiff_dirs.specs.Tables.{tables_at}
 use Rattle.tiff_dirs.specs.Walking.{StopsAt, Stops, capped}
 use Rattle.tiff_dirs.proofs.Loads.{reads_trans}
 use Rattle.tiff_dirs.proofs.Reading.{body_by_entries, body_by_pictures}
-use Rattle.tiff_dirs.proofs.Bodies.{body_read, values_read, entries_known, next_known, body_known}
+use Rattle.tiff_dirs.proofs.Bodies.{body_read, values_read, entries_known, next_known, body_known, is_part}
 use Rattle.tiff_dirs.proofs.directory.read_body.Goals as goal
 
 pub returns-in-Err-clause-calls : goal.returns-in-Err-clause-calls
@@ -56,8 +56,24 @@ returns-in-Err-take_pictures-clause-answer g c = λ files told.
     (subst (λ (es : List Entry). StopsAt (pictures_fault len (pictures_of l file es)) stop) c.as_slice-list.ensures.value
     (c.in-Err-take_pictures.ensures.answer files (c.fetch.ensures.call.calls.same.files ∙ told))))
 
-pub returns-in-Ok-reach_children-clause-calls : goal.returns-in-Ok-reach_children-clause-calls
-returns-in-Ok-reach_children-clause-calls g c =
+pub returns-in-Err-reach_children-clause-calls : goal.returns-in-Err-reach_children-clause-calls
+returns-in-Err-reach_children-clause-calls g c =
+    let l = c.args.layout in
+    let name = c.args.name.now in
+    let back = sym c.fetch.ensures.call.calls.same.files in
+    let back2 = back ∙ sym c.take_pictures.ensures.calls.same.files in
+    reads_trans name _ _ _ (λ file. tables_at l file c.args.at)
+    (body_read (g.D.Desk.state c.args.desk.now) (g.D.Desk.state c.fetch.new.desk) name l c.args.at c.args.count c.fetch.ensures.call.calls c.requires.count)
+    (reads_trans name _ _ _ (λ file. tables_at l file c.args.at)
+    (values_read (g.D.Desk.state c.fetch.new.desk) (g.D.Desk.state c.take_pictures.new.desk) name l c.args.at c.as_slice-list.result.now c.take_pictures.ensures.calls
+    (λ files told. c.as_slice-list.ensures.value ∙ c.in-Ok-read_entries.ensures.0
+    ∙ entries_known l (bytes_of files name) c.as_slice.result.now c.args.at c.args.count (c.as_slice.ensures ∙ c.in-Ok.ensures.call.bytes files (back ∙ told)) (c.requires.count files (back ∙ told)) c.requires.widths))
+    (values_read (g.D.Desk.state c.take_pictures.new.desk) (g.D.Desk.state c.reach_children.new.desk) name l c.args.at c.as_slice-list.result.now c.reach_children.ensures.calls
+    (λ files told. c.as_slice-list.ensures.value ∙ c.in-Ok-read_entries.ensures.0
+    ∙ entries_known l (bytes_of files name) c.as_slice.result.now c.args.at c.args.count (c.as_slice.ensures ∙ c.in-Ok.ensures.call.bytes files (back2 ∙ told)) (c.requires.count files (back2 ∙ told)) c.requires.widths)))
+
+pub returns-in-Ok-keep-clause-calls : goal.returns-in-Ok-keep-clause-calls
+returns-in-Ok-keep-clause-calls g c =
     let l = c.args.layout in
     let name = c.args.name.now in
     let back = sym c.fetch.ensures.call.calls.same.files in
@@ -88,8 +104,8 @@ returns-clause-calls g c =
     (λ files told. c.as_slice-list.ensures.value ∙ c.in-Ok-read_entries.ensures.0
     ∙ entries_known l (bytes_of files name) c.as_slice.result.now c.args.at c.args.count (c.as_slice.ensures ∙ c.in-Ok.ensures.call.bytes files (back2 ∙ told)) (c.requires.count files (back2 ∙ told)) c.requires.widths)))
 
-pub returns-in-Ok-reach_children-clause-answer : goal.returns-in-Ok-reach_children-clause-answer
-returns-in-Ok-reach_children-clause-answer g c = λ files told.
+pub returns-in-Ok-keep-clause-answer : goal.returns-in-Ok-keep-clause-answer
+returns-in-Ok-keep-clause-answer g c = λ files told.
     let l = c.args.layout in
     let file = bytes_of files c.args.name.now in
     let len = c.args.len in
@@ -114,3 +130,10 @@ returns-in-Ok-reach_children-clause-answer g c = λ files told.
     (c.number_at-next.ensures ∙ next_known l file c.as_slice.result.now at n is count)
     (c.in-Ok-reach_children.ensures.reached files last ∙ ap (λ (es : List Entry). capped (old ++ (flat_map (named l file) es ++ chained next))) c.as_slice-list.ensures.value)
     refl refl refl
+
+pub returns-in-Ok-keep-clause-kept : goal.returns-in-Ok-keep-clause-kept
+returns-in-Ok-keep-clause-kept g c = λ files told.
+    let call = c.in-Ok.ensures.call in
+    c.in-Ok-keep.ensures (bytes_of files c.args.name.now)
+    (is_part (bytes_of files c.args.name.now) c.as_slice.result.now (c.args.at + c.args.layout.count) (c.args.layout.entry * c.args.count + c.args.layout.word)
+    (ap length c.as_slice.ensures ∙ call.size) (c.as_slice.ensures ∙ call.bytes files told))
