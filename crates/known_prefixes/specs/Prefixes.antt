@@ -10,7 +10,7 @@ use Rattle.xmp_values.specs.Spaces.{rdf_space, xml_space, meta_space}
 abbrev pub fixed_prefixes : List (List ℕ × List ℕ)
 fixed_prefixes = (rdf_space, codes "rdf") ∷ (xml_space, codes "xml") ∷ (meta_space, codes "x") ∷ []
 
--- The namespaces whose prefix is known, each beside it (ISO 16684-1, clause 8; XMP Specification Part 2).
+-- The namespaces whose prefix is known, each beside it (ISO 16684-1, clause 8; XMP Specification Parts 2 and 3; IPTC Photo Metadata Standard).
 abbrev pub known_prefixes : List (List ℕ × List ℕ)
 known_prefixes = fixed_prefixes ++ (
     (codes "http://purl.org/dc/elements/1.1/", codes "dc")
@@ -40,6 +40,6 @@ is_fixed space = list_any (λ known. bytes_eq space known.0) fixed_prefixes
 abbrev pub is_known : List ℕ → Bool
 is_known prefix = list_any (λ known. bytes_eq prefix known.1) known_prefixes
 
--- A name that begins with `xml`, in any case, is reserved (Namespaces in XML 1.0, section 3).
+-- A prefix that begins with `xml`, in any case, is reserved (Namespaces in XML 1.0, section 3).
 abbrev pub begins_xml : List ℕ → Bool
 begins_xml prefix = str_eq_ignore_ascii_case (take 3 prefix) (codes "xml")

@@ -17,7 +17,7 @@ is_property_or_item (roles.Property holder) = true
 is_property_or_item roles.Item = true
 is_property_or_item role = false
 
--- The parts of TwiceValue that name attributes.
+-- The parts of TwiceValue that name attributes. RefusedAttribute leaves those attributes to it.
 -- `rdf:value` and `rdf:resource` on one element
 unfoldable pub has_two_values : Element → Bool
 has_two_values e = has_attribute (is_rdf (codes "value")) e && has_attribute (is_rdf (codes "resource")) e

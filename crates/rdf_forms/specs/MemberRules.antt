@@ -43,7 +43,7 @@ has_attribute_value_twice role e = has_two_values e || has_value_again e || has_
 unfoldable pub twice_value : Role → Element → Bool
 twice_value role e = has_attribute_value_twice role e || has_role_value_twice role e
 
--- a name that stands again after itself
+-- whether some name stands again later in the list
 abbrev pub has_again : List Name → Bool
 has_again [] = false
 has_again (n ∷ ns) = list_any (same_name n) ns || has_again ns
@@ -72,7 +72,8 @@ repeats_member ByMembers e = has_again (other_names (map name_of (elements_of e)
 repeats_member (ByNode n) e = has_attribute is_lang e && has_lang_value n
 repeats_member form e = false
 
--- Twice: at a top, a name of its members also among those of the earlier tops, or earlier in it
+-- Twice: at a top, a name of its members also among those of the earlier tops, or earlier in it; at a node, a name of its
+-- members again, or `rdf:type` beside its own type; at a property or item, a name of its own members again, or two `xml:lang`
 unfoldable pub twice : Role → Element → List Name → Bool
 twice roles.Top e names = has_common (member_names e) names || has_again (member_names e)
 twice (roles.Property holder) e names = repeats_member (form_of e) e
@@ -84,6 +85,7 @@ twice role e names = false
 abbrev pub most_depth : ℕ
 most_depth = 24
 
+-- deeper than that, or as deep with an attribute that gives a member one deeper
 abbrev pub too_deep : ℕ → Element → Bool
 too_deep depth e = nat_lt most_depth depth || (depth == most_depth && (has_attribute is_lang e || has_attribute is_member_name e))
 

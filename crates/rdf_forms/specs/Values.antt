@@ -53,7 +53,7 @@ composed lang types ms None = value (Struct ms) (lang ++ types)
 composed lang types ms (Some m) = value (out-Value (value_of m)).shape (lang ++ ((out-Value (value_of m)).quals ++ (types ++ other_members ms)))
 
 -- The value by members: that of `rdf:value`, whose qualifiers the others are, else a structure. First stands `xml:lang`, then
--- the node's type, then the other members in their order.
+-- the qualifiers of `rdf:value` itself, then the node's type, then the other members in their order.
 unfoldable pub by_members : List Member → List Member → List Member → Value
 by_members lang types ms = composed lang types ms (find is_value_member ms)
 

@@ -31,7 +31,7 @@ use Rattle.rdf_forms.specs.FormRules.{bad_item, is_value_element}
 use Rattle.rdf_forms.specs.Values.{plain, element_member, value_within}
 use Rattle.rdf_soundness.proofs.Words.{type_is}
 use Rattle.rdf_soundness.proofs.Unbroken.{IsFaultless}
-use Rattle.xmp_write.specs.Text.{is_tag, simple_in, tag_in, lang_in, is_more, has_others}
+use Rattle.xmp_write.specs.Text.{is_lang_name, simple_in, tag_in, lang_in, is_more, has_others}
 use Rattle.round_trip.specs.Elements.{IsMarked, Plain, Parsed, Resource, Chosen, Begun, IsWritten, IsShape, AreMembers, AreOthers, AreItems}
 use Rattle.round_trip.specs.Law.{ReadsAs, ReadBack}
 use Rattle.round_trip.proofs.Rolled.{Length, count, value_is, member_is, struct_is, array_is}
@@ -61,7 +61,7 @@ MembersReads n row =
 -- the qualifiers besides `xml:lang`
 abbrev other_items : (n : Count) → Row_of-Member n → List Member
 other_items n end_of-Member = []
-other_items n (more_of-Member (Member' name v) rest) = cond (is_tag name) (items-the_row-Member _ rest) (Member' name v ∷ items-the_row-Member _ rest)
+other_items n (more_of-Member (Member' name v) rest) = cond (is_lang_name name) (items-the_row-Member _ rest) (Member' name v ∷ items-the_row-Member _ rest)
 
 abbrev OthersReads : (n : Count) → Row_of-Member n → Type 0
 OthersReads n row =
@@ -81,7 +81,7 @@ name_row name v = rw (tree.name_of, outs-Member' name v) refl
 value_row : (name : Name) (v : Value) → tree.value_of (Member' name v) ≡ v
 value_row name v = rw (tree.value_of, outs-Member' name v) refl
 
-tag_is : (n : Name) → is_tag n ≡ true → n ≡ lang_name
+tag_is : (n : Name) → is_lang_name n ≡ true → n ≡ lang_name
 unfolding lang_name
 tag_is n h =
     let parts = and_parts (bytes_eq n.space xml_space) (bytes_eq n.local (codes "lang")) h in
@@ -89,9 +89,9 @@ tag_is n h =
     let local = same_bytes n.local (codes "lang") parts.1 in
     λ i. record { space = space i; local = local i }
 
-tag_not : (n : Name) → is_tag n ≡ false → n ≢ lang_name
+tag_not : (n : Name) → is_lang_name n ≡ false → n ≢ lang_name
 unfolding lang_name xml_space
-tag_not n h same = both_ways (is_tag n) h (ap is_tag same)
+tag_not n h same = both_ways (is_lang_name n) h (ap is_lang_name same)
 
 shape_named : (s : Shape) (e : Element) (name : Name) (lang : Option (List ℕ)) → IsShape e name lang s → name_of e ≡ name
 shape_named (Simple text) e name lang h = h.0.named
@@ -257,7 +257,7 @@ after_apart : (m : Member) (ms : List Member) → AreQualifiers (m ∷ ms) → N
 after_apart m ms h = (differ_cons m ms h.apart).1
 
 -- the first, where it isn't `xml:lang`
-first_allowed : (name : Name) (v : Value) (ms : List Member) → is_tag name ≡ false → AreQualifiers (Member' name v ∷ ms) → IsAllowed (holders.Value true) (Member' name v)
+first_allowed : (name : Name) (v : Value) (ms : List Member) → is_lang_name name ≡ false → AreQualifiers (Member' name v ∷ ms) → IsAllowed (holders.Value true) (Member' name v)
 first_allowed name v ms off h = qualifier_allowed (Member' name v) (λ same. tag_not name off (sym (name_row name v) ∙ same)) (All-head IsQualifier (Member' name v) ms h.each)
 
 others_end : OthersReads _ end_of-Member
@@ -265,12 +265,12 @@ others_end levels depth es h wf quals deep enough =
     subst (λ (es : List Element). MembersRead levels depth (holders.Value true) es []) (sym h) (record { unbroken = refl; read = refl })
 
 others_more : (name : Name) (v : Value) (n : Count) (rest : Row_of-Member n) → ValueReads v → MembersReads n rest → OthersReads _ (more_of-Member (Member' name v) rest)
-others_more name v n rest ih ihs levels depth es h wf quals deep enough = by (is_tag name) refl h
+others_more name v n rest ih ihs levels depth es h wf quals deep enough = by (is_lang_name name) refl h
   where
     after : (others : List Element) → AreMembers others rest → MembersRead levels depth (holders.Value true) others (items-the_row-Member n rest)
     after others k = ihs levels depth (holders.Value true) others k wf.1 (after_allowed (Member' name v) (items-the_row-Member n rest) quals) (omega arith) (omega arith)
 
-    by : (b : Bool) → is_tag name ≡ b → Chosen b (AreMembers es rest) (Begun (λ x. IsWritten x name v) (λ others. AreMembers others rest) es)
+    by : (b : Bool) → is_lang_name name ≡ b → Chosen b (AreMembers es rest) (Begun (λ x. IsWritten x name v) (λ others. AreMembers others rest) es)
         → MembersRead levels depth (holders.Value true) es (cond b (items-the_row-Member n rest) (Member' name v ∷ items-the_row-Member n rest))
     by true is h = after es h
     by false is h =
@@ -292,9 +292,9 @@ plain_is (Value' s n q) p =
 -- qualifiers are `xml:lang` and the others
 quals_is : (n : Count) (q : Row_of-Member n) → AreQualifiers (items-the_row-Member n q) → items-the_row-Member n q ≡ tags (lang_in q) ++ other_items n q
 quals_is n end_of-Member h = refl
-quals_is n (more_of-Member (Member' name v) rest) h = by (is_tag name) refl
+quals_is n (more_of-Member (Member' name v) rest) h = by (is_lang_name name) refl
   where
-    by : (b : Bool) → is_tag name ≡ b
+    by : (b : Bool) → is_lang_name name ≡ b
         → Member' name v ∷ items-the_row-Member _ rest ≡ tags (cond b (Some (tag_in v)) None) ++ cond b (items-the_row-Member _ rest) (Member' name v ∷ items-the_row-Member _ rest)
     by true is =
         let same = tag_is name is in
@@ -306,18 +306,18 @@ quals_is n (more_of-Member (Member' name v) rest) h = by (is_tag name) refl
 
 others_allowed : (n : Count) (q : Row_of-Member n) → AreQualifiers (items-the_row-Member n q) → All (IsAllowed (holders.Value true)) (other_items n q)
 others_allowed n end_of-Member h = All-nil (IsAllowed (holders.Value true))
-others_allowed n (more_of-Member (Member' name v) rest) h = by (is_tag name) refl
+others_allowed n (more_of-Member (Member' name v) rest) h = by (is_lang_name name) refl
   where
     after : All (IsAllowed (holders.Value true)) (items-the_row-Member _ rest)
     after = after_allowed (Member' name v) (items-the_row-Member _ rest) h
 
-    by : (b : Bool) → is_tag name ≡ b → All (IsAllowed (holders.Value true)) (cond b (items-the_row-Member _ rest) (Member' name v ∷ items-the_row-Member _ rest))
+    by : (b : Bool) → is_lang_name name ≡ b → All (IsAllowed (holders.Value true)) (cond b (items-the_row-Member _ rest) (Member' name v ∷ items-the_row-Member _ rest))
     by true is = after
     by false is = All-cons (IsAllowed (holders.Value true)) (Member' name v) (items-the_row-Member _ rest) (first_allowed name v (items-the_row-Member _ rest) is h) after
 
 others_apart : (n : Count) (q : Row_of-Member n) → AreQualifiers (items-the_row-Member n q) → NamesDiffer (other_items n q)
 others_apart n end_of-Member h = h.apart
-others_apart n (more_of-Member (Member' name v) rest) h = by (is_tag name)
+others_apart n (more_of-Member (Member' name v) rest) h = by (is_lang_name name)
   where
     by : (b : Bool) → NamesDiffer (cond b (items-the_row-Member _ rest) (Member' name v ∷ items-the_row-Member _ rest))
     by true = after_apart (Member' name v) (items-the_row-Member _ rest) h
@@ -329,7 +329,7 @@ none_more n (more_of-Member m rest) h = absurd cc
 
 none_others : (n : Count) (q : Row_of-Member n) → has_others q ≡ false → other_items n q ≡ []
 none_others n end_of-Member h = refl
-none_others n (more_of-Member (Member' name v) rest) h = by (is_tag name) h
+none_others n (more_of-Member (Member' name v) rest) h = by (is_lang_name name) h
   where
     by : (b : Bool) → cond b (is_more rest) true ≡ false → cond b (items-the_row-Member _ rest) (Member' name v ∷ items-the_row-Member _ rest) ≡ []
     by true h = none_more _ rest h

@@ -22,7 +22,7 @@ use Rattle.xmp_tree.specs.declared.nested.Shape.{Shape, Simple, Uri, Struct', Ar
 use Rattle.xmp_tree.specs.Wf.{IsWfValue, IsWfShape, AreWfMembers, AreWfValues, value_depth, shape_depth, member_depths, value_depths}
 use Rattle.rdf_forms.specs.Words.{rdf}
 use Rattle.rdf_forms.specs.Parts.{elements_of}
-use Rattle.xmp_write.specs.Text.{is_tag, simple_in, tag_in, lang_in, has_others, lang_text, parse_text, text_escaped, element_text, kind_name, value_text, shape_text, members_text, others_text, items_text}
+use Rattle.xmp_write.specs.Text.{is_lang_name, simple_in, tag_in, lang_in, has_others, lang_text, parse_text, text_escaped, element_text, kind_name, value_text, shape_text, members_text, others_text, items_text}
 use Rattle.xmp_write.specs.Prefixes.{spelled}
 use Rattle.round_trip.specs.Elements.{IsMarked, Plain, Parsed, Resource, kind_local, Chosen, Begun, IsWritten, IsShape, AreMembers, AreOthers, AreItems}
 use Rattle.round_trip.proofs.Naming.{HasNames, ShapeNames, MembersNames, ItemsNames}
@@ -86,7 +86,7 @@ tag_text (Value' s n q) h = simple_text s h.0
 
 tag_of : (n : Count) (q : Row_of-Member n) → AreWfMembers q → IsTag (lang_in q)
 tag_of n end_of-Member h = tt
-tag_of n (more_of-Member (Member' name v) rest) h = by (is_tag name) (tag_text v h.0.1)
+tag_of n (more_of-Member (Member' name v) rest) h = by (is_lang_name name) (tag_text v h.0.1)
   where
     by : (b : Bool) → IsCharText (tag_in v) → IsTag (cond b (Some (tag_in v)) None)
     by true h = h
@@ -195,7 +195,7 @@ module _ (ps : List Hint) (P : Name → Type 0) where
       (ihs l ls (at + length (value_text ps (spelled ps name) v)) scope names.1 wf.1 (omega arith))
 
   others_more_made : (name : Name) (v : Value) (n : Count) (rest : Row_of-Member n) → ValueMade v → MembersMade n rest → OthersMade _ (more_of-Member (Member' name v) rest)
-  others_more_made name v n rest ih ihs l ls at scope names wf low = by (is_tag name)
+  others_more_made name v n rest ih ihs l ls at scope names wf low = by (is_lang_name name)
     where
       by : (b : Bool) → MadeRow (λ es. Chosen b (AreMembers es rest) (Begun (λ x. IsWritten x name v) (λ others. AreMembers others rest) es)) l ls at
           (cond b (members_text ps rest) (value_text ps (spelled ps name) v ++ members_text ps rest))

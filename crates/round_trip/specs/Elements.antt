@@ -14,7 +14,7 @@ use Rattle.xmp_tree.specs.declared.nested.Shape.{Shape, Simple, Uri, Struct', Ar
 use Rattle.xmp_tree.specs.Wf.{lang_name}
 use Rattle.rdf_forms.specs.Words.{rdf}
 use Rattle.rdf_forms.specs.Parts.{name_of, attributes_of, elements_of, own_text}
-use Rattle.xmp_write.specs.Text.{is_tag, lang_in, has_others}
+use Rattle.xmp_write.specs.Text.{is_lang_name, lang_in, has_others}
 
 -- an element's name, attributes and own text
 pub record IsElement (e : Element) (name : Name) (attributes : List Attribute) (text : List ℕ) : Type 0 where
@@ -79,7 +79,7 @@ abbrev mutual
   pub AreOthers : {m : _} → List Element → Row_of-Member m → Type 0
   AreOthers es end_of-Member = es ≡ []
   AreOthers es (more_of-Member (Member' name value) rest) =
-      Chosen (is_tag name) (AreMembers es rest) (Begun (λ x. IsWritten x name value) (λ others. AreMembers others rest) es)
+      Chosen (is_lang_name name) (AreMembers es rest) (Begun (λ x. IsWritten x name value) (λ others. AreMembers others rest) es)
 
   pub AreItems : {m : _} → List Element → Row_of-Value m → Type 0
   AreItems es end_of-Value = es ≡ []

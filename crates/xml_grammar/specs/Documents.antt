@@ -65,7 +65,7 @@ Breaks s left r = (piece : Piece) × (front : List ℕ) × (back : List ℕ) × 
 
 -- Whether a rule holds for what is left, each rule by itself. Each piece that begins `<!--` is a comment, `<![CDATA[` a
 -- CDATA section, `<?` an instruction or an XML declaration, `&` a reference, and `<` before anything else a tag; so "no
--- piece" is "none of these".
+-- piece" is "none of these". An XML declaration that isn't first is no piece, nor is a tag with a wrong reference in a value.
 abbrev pub Holds : Nest → List ℕ → Rule → Type 0
 Holds s left BadChar = ((c : ℕ) × (rest : List ℕ) × IsFalse (is_char c) × (left ≡ c ∷ rest)) ⊎ ((mode_of s ≡ modes.Inside) × BeginsWith (codes "]]>") left)
 Holds s left Doctype = BeginsWith (codes "<!DOCTYPE") left

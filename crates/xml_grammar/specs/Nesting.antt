@@ -33,6 +33,7 @@ abbrev pub is_outside : List Level → Bool
 is_outside [] = true
 is_outside (l ∷ ls) = false
 
+-- at the text's start, where an XML declaration may stand, outside the root, or inside an element
 abbrev pub mode_in : Bool → List Level → Mode
 mode_in true [] = modes.Start
 mode_in false [] = modes.Outside
@@ -86,7 +87,7 @@ abbrev pub ends_other : List Level → Piece → Bool
 ends_other (level ∷ levels) (End name) = not (same_qname level.name name)
 ends_other levels piece = false
 
--- a tag with a declaration that isn't allowed (Namespaces in XML 1.0, section 3)
+-- a tag with a declaration that isn't allowed (Namespaces in XML 1.0, sections 3 and 5, the namespace constraints)
 abbrev pub misbinds : Piece → Bool
 misbinds (Start tag) = list_any is_misbound (bindings_of tag.attributes)
 misbinds piece = false

@@ -1,4 +1,4 @@
--- Reading tags (XML 1.0, productions 40 to 44).
+-- Reading tags (XML 1.0, productions 40 to 42 and 44).
 use Rattle.std.specs.Prelude.{ℕ, zero, suc, Bool, true, false, ◌==◌, ◌||◌, List, [], ◌∷◌, Option, None, Some, codes, if◌then◌else◌}
 use Rattle.xmp_values.specs.Characters.{is_blank}
 use Rattle.xml_grammar.specs.declared.tags.QName.{QName}

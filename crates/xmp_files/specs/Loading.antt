@@ -21,7 +21,7 @@ within (Some bytes) = if nat_lt file_limit (length bytes) then Err (over_limit (
 abbrev pub known : List ℕ → Result Kind Fault
 known bytes = ok_or (kind_of bytes) not_known
 
--- These are functions of the file, since memory is wanted of a file alone that passes them.
+-- These are functions of the file, so that contracts can say: memory is wanted only for a file that passes them.
 abbrev pub kind_of_file : Option (List ℕ) → Result Kind Fault
 kind_of_file file = followed (within file) known
 

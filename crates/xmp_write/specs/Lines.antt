@@ -1,4 +1,4 @@
--- The lines that show a tree: first `about VALUE`, then for each property `PATH KIND REST`.
+-- The lines that show a tree: first `about VALUE`, then for each value `PATH KIND REST`.
 use Rattle.std.specs.Prelude.{ℕ, ◌+◌, ◌==◌, if◌then◌else◌, codes, decimal, List, [], ◌∷◌, ◌++◌, length}
 use Rattle.std.specs.List.{flat_map}
 use Rattle.xmp_values.specs.declared.hints.Hint.{Hint}
