@@ -23,3 +23,4 @@ pub mod SameTexts
 pub mod FrontTexts
 pub mod FrontLengths
 pub mod SplitSteps
+pub mod GrownPrefixes

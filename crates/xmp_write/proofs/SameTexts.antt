@@ -47,7 +47,7 @@ module _ (ps qs : List Hint) where
     shape_alike name lang (Struct' n fields) same = ap (element_text name (lang_text lang ++ parse_text)) (members_alike fields same)
     shape_alike name lang (Array' kind n items) same = ap (λ text. element_text name (lang_text lang) (element_text (kind_name kind) [] text)) (items_alike items same)
 
-    member_alike : (m : Member) → AreAlike (member_spaces m) → member_text ps m ≡ member_text qs m
+    pub member_alike : (m : Member) → AreAlike (member_spaces m) → member_text ps m ≡ member_text qs m
     member_alike (Member' name value) same =
         let P = λ (space : List ℕ). written_prefix ps space ≡ written_prefix qs space in
         ap (λ prefix. value_text ps (prefix ++ codes ":" ++ name.local) value) (All-head P name.space (value_spaces value) same)

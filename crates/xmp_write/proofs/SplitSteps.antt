@@ -1,11 +1,11 @@
--- A front as it grows by a property, and the split that is found.
+-- The length of a front as it grows by a property, and the split that is found.
 use Rattle.std.proofs.Common.{◌≡◌, ℕ, ◌+◌, ◌-◌, ◌^◌, ◌<◌, ◌≤◌, Bool, true, false, List, [], ◌∷◌, ◌++◌, length, take, drop, get_or, fold, min, Some, refl, sym, ap, subst, ◌∙◌, ⊎_elim, length-append, arith}
 use Rattle.std.specs.Prelude.{codes, slice_range, IsTrue, ◌↔◌}
 use Rattle.std.specs.List.{flat_map}
 use Rattle.std.proofs.Math.Seq.{take-add}
 use Rattle.std.proofs.lemmas.Bool.{cases_lt, both_ways}
 use Rattle.std.proofs.lemmas.Grind.{flat_map-append}
-use Rattle.std.proofs.lemmas.List.{append-nil, take_more, take_all}
+use Rattle.std.proofs.lemmas.List.{append-nil, take_more}
 use Rattle.std.proofs.lemmas.List.Sums.{fold-append, AllPass-from_list_all}
 use Rattle.xmp_values.specs.Digits.{AreCapitals, is_capital}
 use Rattle.xmp_values.specs.declared.hints.Hint.{Hint}
@@ -15,13 +15,12 @@ use Rattle.xmp_tree.specs.Wf.{note_name}
 use Rattle.xmp_write.specs.Prefixes.{with_use, prefixes}
 use Rattle.xmp_write.specs.Written.{member_spaces, note_members}
 use Rattle.xmp_write.specs.Text.{attribute_text, declared_text, lines_text, member_text, written_text}
-use Rattle.xmp_write.specs.Splits.{rest_form, text_len, Fits, IsSplit, Tells, front_spaces, all_spaces, given_to, zeros, base_len, front_len, IsFront, FrontStops, Stops}
+use Rattle.xmp_write.specs.Splits.{rest_form, text_len, Fits, IsSplit, Tells, front_spaces, zeros, base_len, front_len, IsFront, FrontStops, Stops}
 use Rattle.xmp_write.specs.declared.forms.Form.{Form}
 use Rattle.xmp_write.specs.declared.splits.Front.{Front}
 use Rattle.xmp_write.specs.declared.splits.SplitStop.{SplitStop}
 use Rattle.xmp_write.specs.declared.splits.SplitStop.TheVariants.{TooLong, Memory}
 use Rattle.xmp_write.proofs.TextParts.{lines_text-append, declared_text-append}
-use Rattle.xmp_write.proofs.FrontTexts.{later_spaces, given_len}
 use Rattle.xmp_write.proofs.FrontLengths.{whole, front_len_is, front_grows}
 
 -- three lengths, each after the one before
@@ -33,23 +32,13 @@ unfolding base_len
 base_is ps t = refl
 
 module _ (props : List Member) where
-  -- the namespaces of a front are no more than those of the whole
-  pub spaces_within : (k : ℕ) → k ≤ length props → length (front_spaces props k) ≤ length (front_spaces props (length props))
-  spaces_within k within =
-      let j = length props - k in
-      let all : k + j ≡ length props = omega arith in
-      let more = later_spaces [] props k j in
-      subst (λ n. length (front_spaces props k) ≤ length (front_spaces props n)) all (omega (arith, ap length more.1, length-append (front_spaces props k) more.0))
-
+  -- the namespaces of a front with one property more
   pub spaces_step : (k : ℕ) (m : Member) → k < length props → m ≡ get_or props k m → fold with_use (front_spaces props k) (member_spaces m) ≡ front_spaces props (k + 1)
   spaces_step k m within here =
       let more = take_more props k m within ∙ ap (λ x. take k props ++ x ∷ []) (sym here) in
       sym (ap (λ ms. fold with_use [] (note_name.space ∷ flat_map member_spaces ms)) more
       ∙ ap (λ rest. fold with_use [] (note_name.space ∷ rest)) (flat_map-append member_spaces (take k props) (m ∷ []) ∙ ap (λ rest. flat_map member_spaces (take k props) ++ rest) (append-nil (member_spaces m)))
       ∙ fold-append with_use [] (note_name.space ∷ flat_map member_spaces (take k props)) (member_spaces m))
-
-  pub whole_len : (hints : List Hint) → length (front_spaces props (length props)) ≡ length (given_to hints (all_spaces props))
-  whole_len hints = ap (λ ms. length (fold with_use [] (note_name.space ∷ flat_map member_spaces ms))) (take_all (length props) props (omega arith)) ∙ sym (given_len hints props (all_spaces props))
 
 module _ (ps : List Hint) (t : Parts) where
   pub len_step : (k : ℕ) (m : Member) (used to : ℕ) → k < length t.props → m ≡ get_or t.props k m → used ≡ length (front_spaces t.props k) → to ≡ length (front_spaces t.props (k + 1)) → used ≤ to
@@ -122,30 +111,6 @@ unfolding front_len
 start_is ps t used len before counted =
     let same = ap (λ n. length (declared_text (take n ps))) before in
     omega (arith, same, counted)
-
--- one property more, as the call counts it
-module _ (t : Parts) (k : ℕ) (m : Member) (uses more : List (List ℕ)) (used to : ℕ) (are : uses ≡ front_spaces t.props k) (grown : more ≡ fold with_use uses (member_spaces m))
-    (before : used ≡ length uses) (after : to ≡ length more) (within : k < length t.props) (here : m ≡ get_or t.props k m) where
-  pub more_uses_are : more ≡ front_spaces t.props (k + 1)
-  more_uses_are = grown ∙ ap (λ spaces. fold with_use spaces (member_spaces m)) are ∙ spaces_step t.props k m within here
-
-  used_is : used ≡ length (front_spaces t.props k)
-  used_is = before ∙ ap length are
-
-  to_is : to ≡ length (front_spaces t.props (k + 1))
-  to_is = after ∙ ap length more_uses_are
-
-  pub in_order : used ≤ to
-  in_order =
-      let later = later_spaces [] t.props k 1 in
-      omega (arith, used_is, to_is, ap length later.1, length-append (front_spaces t.props k) later.0)
-
-  pub in_whole : (many : ℕ) → length (front_spaces t.props (length t.props)) ≤ many → to ≤ many
-  in_whole many whole = let last : k + 1 ≤ length t.props = omega arith in omega (arith, to_is, spaces_within t.props (k + 1) last, whole)
-
-  pub counted_more : (ps : List Hint) (len next : ℕ) → len ≡ min (front_len ps t k) (2 ^ 64 - 1)
-      → next ≡ min (len + (length (member_text ps m) + 1 + length (declared_text (slice_range ps used to)))) (2 ^ 64 - 1) → next ≡ min (front_len ps t (k + 1)) (2 ^ 64 - 1)
-  counted_more ps len next old new = more_is ps t k m used to len next within here used_is to_is in_order old new
 
 -- what is told where no front fits
 pub stops_told : (t : Parts) (hints ps : List Hint) (room : ℕ) (stop : SplitStop) → ps ≡ whole t hints → FrontStops ps t room stop → Stops t hints room stop

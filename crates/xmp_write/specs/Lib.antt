@@ -9,3 +9,4 @@ pub mod ValueLines
 pub mod Placing
 pub mod Giving
 pub mod Writing
+pub mod Grown

@@ -18,9 +18,9 @@ pub struct Given {
     /// The namespaces in their order, each with its prefix.
     pub list: Sequence<Hint>,
     /// These prefixes.
-    taken: BTreeSet<Vec<u8>>,
+    pub taken: BTreeSet<Vec<u8>>,
     /// No numbered prefix below this number is free. It only grows, since what is taken stays so.
-    next: usize,
+    pub next: usize,
 }
 
 /// The prefix `nsN` of a number N.
@@ -35,7 +35,7 @@ fn numbered(alloc: Global, number: usize) -> Result<Vec<u8>, Memory>
 
 impl Given {
     /// Nothing given, which takes no memory.
-    fn new(alloc: Global) -> Given
+    pub fn new(alloc: Global) -> Given
         ensures list { result.list ≡ [] }
         ensures given { (hints : List Hint) → IsGiven hints result }
     {
@@ -134,20 +134,21 @@ impl Given {
             None => self.push_number(alloc, hints, space),
         }
     }
-}
 
-/// The namespaces in their order, each with its prefix.
-pub fn give(
-    alloc: Global,
-    hints: &HintMap<'_>,
-    spaces: &TextSet<'_>,
-) -> Result<Sequence<Hint>, Memory>
-    ensures { IfOk result (λ list. list ≡ fold (with_prefix hints.now) [] spaces.now) }
-{
-    let spaces = spaces.as_slice();
-    let mut given = Given::new(alloc);
-    for space in spaces {
-        given.push_space(alloc, hints, space)?;
+    /// Gives namespaces their prefixes, one after the other.
+    pub fn push_spaces(
+        &mut self,
+        alloc: Global,
+        hints: &HintMap<'_>,
+        spaces: &[&[u8]],
+    ) -> Result<(), Memory>
+        requires { IsGiven hints.now self.old }
+        ensures given { OnOk result (self.new.list ≡ fold (with_prefix hints.now) self.old.list (texts_of spaces.now)) }
+        ensures kept { OnOk result (IsGiven hints.now self.new) }
+    {
+        for space in spaces {
+            self.push_space(alloc, hints, space)?;
+        }
+        Ok(())
     }
-    Ok(given.list)
 }

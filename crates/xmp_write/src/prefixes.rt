@@ -1,15 +1,20 @@
 //! The prefixes of a written text.
-ghost use Rattle.std.specs.Prelude.{◌≡◌, ◌+◌, ◌≤◌, [], IfOk, fold, length, slice_get, unwrap_or};
+ghost use Rattle.std.specs.Prelude.{◌≡◌, ◌+◌, ◌≤◌, [], IfOk, fold, length, slice_get, take, unwrap_or};
 ghost use Rattle.std.specs.Option.{option_copied, option_map};
-ghost use Rattle.xmp_write.specs.Prefixes.{prefixes, with_prefix, written_prefix};
+ghost use Rattle.xmp_tree.specs.Wf.{note_name};
+ghost use Rattle.xmp_write.specs.Written.{member_spaces};
+ghost use Rattle.xmp_write.specs.Prefixes.{prefixes, spaces_in, with_prefix, with_use, written_prefix};
+ghost use Rattle.xmp_write.specs.Giving.{IsGiven};
+ghost use Rattle.xmp_write.specs.Grown.{IsGrown};
 
 use crate::forms::Form;
-use crate::giving::give;
-use crate::uses::declared_spaces;
+use crate::giving::Given;
+use crate::uses::{declared_spaces, use_member, use_note_space};
 use known_prefixes::fixed_prefix;
 use std::alloc::Global;
+use std::collections::BTreeSet;
 use std::marker::Model;
-use xmp_tree::Tree;
+use xmp_tree::{Member, Tree};
 use xmp_values::{Hint, HintMap, Hints, Memory, Sequence, TextSet};
 
 /// The namespaces that a written text declares, each with its prefix, in the order of their first
@@ -59,8 +64,12 @@ impl<'t> Prefixes<'t> {
     ) -> Result<Prefixes<'t>, Memory>
         ensures { IfOk result (λ p. p ≡ fold (with_prefix hints.now) [] spaces.entry) }
     {
-        let list = give(alloc, hints, &spaces)?;
-        Ok(Prefixes { list, spaces })
+        let mut given = Given::new(alloc);
+        given.push_spaces(alloc, hints, spaces.as_slice())?;
+        Ok(Prefixes {
+            list: given.list,
+            spaces,
+        })
     }
 
     /// The number of namespaces.
@@ -106,5 +115,68 @@ impl<'t> Prefixes<'t> {
             Some(place) => self.prefix_at(place),
             None => b"",
         }
+    }
+}
+
+/// The prefixes of a text that grows, with what is kept to give more of them.
+#[derive(Drop)]
+pub struct Growing<'t> {
+    pub prefixes: Prefixes<'t>,
+    taken: BTreeSet<Vec<u8>>,
+    next: usize,
+}
+
+impl<'t> Growing<'t> {
+    /// The prefixes of these namespaces, of which the first are given.
+    fn of(
+        alloc: Global,
+        hints: &HintMap<'_>,
+        given: Given,
+        spaces: TextSet<'t>,
+    ) -> Result<Growing<'t>, Memory>
+        requires kept { IsGiven hints.now given }
+        requires many { length given.list ≤ length spaces }
+        requires first { given.list ≡ fold (with_prefix hints.now) [] (take (length given.list) spaces) }
+        ensures { IfOk result (λ g. IsGrown hints.now spaces.entry g) }
+    {
+        let mut given = given;
+        let first = given.list.len();
+        given.push_spaces(alloc, hints, &spaces.as_slice()[first..])?;
+        let Given { list, taken, next } = given;
+        Ok(Growing {
+            prefixes: Prefixes { list, spaces },
+            taken,
+            next,
+        })
+    }
+
+    /// Those of the note.
+    pub fn note(alloc: Global, hints: &HintMap<'_>) -> Result<Growing<'t>, Memory>
+        ensures { IfOk result (λ g. IsGrown hints.now (with_use [] note_name.space) g) }
+    {
+        let mut spaces = TextSet::new(alloc);
+        use_note_space(&mut spaces)?;
+        Growing::of(alloc, hints, Given::new(alloc), spaces)
+    }
+
+    /// The prefixes with those of one property more.
+    pub fn with_member(
+        self,
+        alloc: Global,
+        hints: &HintMap<'_>,
+        member: &'t Member<'_>,
+    ) -> Result<Growing<'t>, Memory>
+        requires { IsGrown hints.now (spaces_in self.prefixes) self }
+        ensures { IfOk result (λ g. IsGrown hints.now (fold with_use (spaces_in self.entry.prefixes) (member_spaces member.now)) g) }
+    {
+        let Growing {
+            prefixes,
+            taken,
+            next,
+        } = self;
+        let Prefixes { list, spaces } = prefixes;
+        let mut spaces = spaces;
+        use_member(&mut spaces, member)?;
+        Growing::of(alloc, hints, Given { list, taken, next }, spaces)
     }
 }

@@ -1,20 +1,18 @@
 //! A tree whose text is too long for one packet, in two texts (XMP Specification Part 3, 1.1.3.1):
 //! the front, which is the note and the first properties, and the rest.
-ghost use Rattle.std.specs.Prelude.{◌≡◌, ◌+◌, ◌-◌, ◌^◌, ◌<◌, ◌≤◌, ◌++◌, [], ◌∷◌, codes, fold, length, take, min, slice_range, IfOk, MatchResult, IsTrue, ◌↔◌};
-ghost use Rattle.xmp_tree.specs.Wf.{note_name};
-ghost use Rattle.xmp_write.specs.Prefixes.{with_use, with_prefix};
+ghost use Rattle.std.specs.Prelude.{◌≡◌, ◌+◌, ◌-◌, ◌^◌, ◌<◌, ◌≤◌, ◌++◌, [], ◌∷◌, codes, length, take, min, slice_range, MatchResult, IsTrue, ◌↔◌};
 ghost use Rattle.xmp_write.specs.Text.{declared_text, member_text};
-ghost use Rattle.xmp_write.specs.Splits.{Tells, Stops, IsFront, FrontStops, base_len, front_spaces, all_spaces, given_to};
+ghost use Rattle.xmp_write.specs.Splits.{Tells, Stops, IsFront, FrontStops, base_len, all_spaces, given_to};
 
 use crate::forms::Form;
 use crate::placing::{put, put_attribute, rdf};
-use crate::prefixes::Prefixes;
-use crate::uses::{declared_spaces, use_member, use_members, use_note_space};
+use crate::prefixes::{Growing, Prefixes};
+use crate::uses::declared_spaces;
 use crate::values::put_member;
 use crate::writing::{measure, put_declarations, put_note_line};
 use std::alloc::Global;
 use xmp_tree::{Member, Tree};
-use xmp_values::{HintMap, Hints, Memory, TextSet};
+use xmp_values::{HintMap, Hints, Memory};
 
 /// How a tree is written as two texts.
 #[derive(Clone, Copy, Debug, PartialEq, Eq)]
@@ -89,29 +87,27 @@ fn front_more(len: u64, prefixes: &Prefixes<'_>, member: &Member<'_>, from: usiz
     put_declarations(&mut none, len, &prefixes.as_slice()[from..to])
 }
 
-/// The longest front that fits, with the prefixes of the whole.
-fn front_within<'t>(
+/// The longest front that fits.
+fn front_within(
     alloc: Global,
-    tree: &'t Tree<'_>,
-    prefixes: &Prefixes<'_>,
+    tree: &Tree<'_>,
+    hints: &HintMap<'_>,
     room: u64,
 ) -> Result<Front, SplitStop>
-    requires room { room < 2 ^ 64 - 1 }
-    requires whole { length (front_spaces tree.now.props (length tree.now.props)) ≤ length prefixes.now }
-    ensures { MatchResult result (IsFront prefixes.now tree.now room) (FrontStops prefixes.now tree.now room) }
+    requires { room < 2 ^ 64 - 1 }
+    ensures { MatchResult result (IsFront (given_to hints.now (all_spaces tree.now.props)) tree.now room) (FrontStops (given_to hints.now (all_spaces tree.now.props)) tree.now room) }
 {
     let props = tree.props.as_slice();
-    let mut uses = TextSet::new(alloc);
-    use_note_space(&mut uses)?;
-    let mut len = front_start(tree, prefixes, uses.len());
+    let mut grown = Growing::note(alloc, hints)?;
+    let mut len = front_start(tree, &grown.prefixes, grown.prefixes.len());
     if !fits(len, room) {
         return Err(SplitStop::TooLong(len.saturating_add(73)));
     }
     for count in 0..props.len() {
         let member = &props[count];
-        let used = uses.len();
-        use_member(&mut uses, member)?;
-        let next = front_more(len, prefixes, member, used, uses.len());
+        let used = grown.prefixes.len();
+        grown = grown.with_member(alloc, hints, member)?;
+        let next = front_more(len, &grown.prefixes, member, used, grown.prefixes.len());
         if !fits(next, room) {
             return Ok(Front { count, len });
         }
@@ -123,20 +119,6 @@ fn front_within<'t>(
     })
 }
 
-/// The prefixes of the note and all properties.
-fn whole_prefixes<'t>(
-    alloc: Global,
-    tree: &'t Tree<'_>,
-    hints: &HintMap<'_>,
-) -> Result<Prefixes<'t>, Memory>
-    ensures { IfOk result (λ p. p ≡ given_to hints.now (all_spaces tree.now.props)) }
-{
-    let mut uses = TextSet::new(alloc);
-    use_note_space(&mut uses)?;
-    use_members(&mut uses, tree.props.as_slice())?;
-    Prefixes::given(alloc, hints, uses)
-}
-
 impl Split {
     /// Splits a tree: as many properties stand in the front as fit, so that its packet needs no more
     /// bytes than there is room, and the others in the rest.
@@ -145,8 +127,7 @@ impl Split {
         ensures { MatchResult result (Tells tree.now hints.now room) (Stops tree.now hints.now room) }
     {
         let map = HintMap::new(alloc, hints.as_slice())?;
-        let prefixes = whole_prefixes(alloc, tree, &map)?;
-        let front = match front_within(alloc, tree, &prefixes, room) {
+        let front = match front_within(alloc, tree, &map, room) {
             Ok(front) => front,
             Err(stop) => return Err(stop),
         };
