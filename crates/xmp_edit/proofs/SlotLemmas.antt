@@ -155,10 +155,29 @@ presented_there (Err stop) there h = by (rule_of stop) h
     by (Some rule) h = ap (ok_map present) h
     by None h = tt
 
--- what a change gave, and then stands in the slot
-pub slot_given : (change : Change) (ss : List (Option Member)) (i : ℕ) (m : Member) (g : Option Value) → slice_get ss i ≡ Some (Some m) → change (Some (value_of m)) ≡ Ok g
-    → slot_changed change ss i (slice_get ss i) ≡ Ok (slot_put ss i m g)
-slot_given change ss i m g here gave = ap (slot_changed change ss i) here ∙ ap (ok_map (slot_put ss i m)) gave
+abbrev Given : Type 0
+Given = Result (Option Member) Rule
+
+abbrev given_of : Option Member → Given → Option Member
+given_of d (Ok given) = given
+given_of d (Err rule) = d
+
+same_Ok : (x y : Option Member) → ◌≡◌ {A = Given} (Ok x) (Ok y) → x ≡ y
+same_Ok x y h = ap (given_of x) h
+
+err_ok : (rule : Rule) (g : Option Member) → ◌≡◌ {A = Given} (Err rule) (Ok g) → ⊥
+err_ok rule g h = cc
+
+-- what a change made of a property, and then stands in the slot
+pub slot_given : (change : Change) (ss : List (Option Member)) (i : ℕ) (m : Member) (g : Option Member) → slice_get ss i ≡ Some (Some m) → ok_map (option_map (member (name_of m))) (change (Some (value_of m))) ≡ Ok g
+    → slot_changed change ss i (slice_get ss i) ≡ Ok (slice_set ss i g)
+slot_given change ss i m g here = by (change (Some (value_of m))) refl
+  where
+    by : (r : Result (Option Value) Rule) → change (Some (value_of m)) ≡ r → ok_map (option_map (member (name_of m))) r ≡ Ok g → slot_changed change ss i (slice_get ss i) ≡ Ok (slice_set ss i g)
+    by (Ok (Some v)) is gave =
+        ap (slot_changed change ss i) here ∙ ap (ok_map (slot_put ss i m)) is ∙ ap (λ (x : Option Member). Ok (slice_set ss i x)) (same_Ok (Some (member (name_of m) v)) g gave)
+    by (Ok None) is gave = ap (slot_changed change ss i) here ∙ ap (ok_map (slot_put ss i m)) is ∙ ap (λ (x : Option Member). Ok (slice_set ss i x)) (same_Ok None g gave)
+    by (Err e) is gave = absurd (err_ok e g gave)
 
 -- where the slot of a name is, a member of it stands
 pub slot_named : (n : Name) (ss : List (Option Member)) (i : ℕ) (m : Member) → slot_of n ss ≡ Some i → slice_get ss i ≡ Some (Some m) → same_name (name_of m) n ≡ true
@@ -308,6 +327,13 @@ module _ (ss : List (Option Member)) (old : BTreeMap Key ℕ) (placed : HasPlace
   pub placed_put : (i : ℕ) (m : Member) (v : Value) → slice_get ss i ≡ Some (Some m) → HasPlaces old (slice_set ss i (Some (member (name_of m) v)))
   placed_put i m v here q =
       placed q ∙ sym (slot_of-set (name_at q) ss i (Some m) (Some (member (name_of m) v)) here (ap (λ n. same_name n (name_at q)) (name-member (name_of m) v)))
+
+  -- the same of a property that a change made
+  pub placed_given : (i : ℕ) (m p : Member) (r : Result (Option Value) Rule) → slice_get ss i ≡ Some (Some m) → ok_map (option_map (member (name_of m))) r ≡ Ok (Some p) → HasPlaces old (slice_set ss i (Some p))
+  placed_given i m p (Ok (Some v)) here gave =
+      subst (λ (x : Option Member). HasPlaces old (slice_set ss i x)) (same_Ok (Some (member (name_of m) v)) (Some p) gave) (placed_put i m v here)
+  placed_given i m p (Ok None) here gave = absurd (none-some p (same_Ok None (Some p) gave))
+  placed_given i m p (Err e) here gave = absurd (err_ok e (Some p) gave)
 
   -- a name has no slot where its member is taken out
   pub placed_out : (key : Key) (i : ℕ) (m : Member) (new : BTreeMap Key ℕ) → slot_of (name_at key) ss ≡ Some i → slice_get ss i ≡ Some (Some m) → same_name (name_of m) (name_at key) ≡ true →

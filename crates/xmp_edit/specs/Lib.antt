@@ -8,3 +8,5 @@ pub mod Law
 pub mod Judging
 pub mod ScriptOf
 pub mod Slots
+pub mod Codes
+pub mod Properties

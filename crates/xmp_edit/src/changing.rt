@@ -107,7 +107,7 @@ fn make_struct<'p>(alloc: Global, place: Option<Value<'p>>) -> Result<Option<Val
 }
 
 /// A text without qualifiers.
-fn simple<'p>(alloc: Global, text: Text<'p>) -> Value<'p>
+pub fn simple<'p>(alloc: Global, text: Text<'p>) -> Value<'p>
     ensures { result ≡ simple text.entry }
 {
     Value {

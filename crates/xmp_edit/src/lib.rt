@@ -15,6 +15,8 @@ mod judging;
 mod laws;
 mod line;
 mod places;
+mod properties;
+mod queues;
 mod reading;
 mod script;
 mod slots;

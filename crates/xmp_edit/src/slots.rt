@@ -11,7 +11,8 @@ ghost use Rattle.xmp_edit.specs.Slots.{present, slot_of, name_at, HasPlaces, slo
 
 use crate::action::{Action, makes};
 use crate::changing::changed;
-use crate::places::{at_place, is_end};
+use crate::places::is_end;
+use crate::properties::Property;
 use std::alloc::Global;
 use std::collections::BTreeMap;
 use xmp_paths::{Path, Step};
@@ -24,7 +25,7 @@ type Key = (Vec<u8>, Vec<u8>);
 /// Members in their order, with empty slots where some were taken out.
 #[derive(Drop)]
 pub struct Slots<'p> {
-    pub list: Sequence<Option<Member<'p>>>,
+    pub list: Sequence<Option<Property<'p>>>,
     /// The slot of each name. It has keys of its own, since the members come and go.
     pub places: BTreeMap<(Vec<u8>, Vec<u8>), usize>,
 }
@@ -46,13 +47,14 @@ fn pushed<'p>(slots: Slots<'p>, key: Key, member: Member<'p>) -> Result<Slots<'p
 {
     let Slots { list, places } = slots;
     let mut list = list;
+    let property = Property::of(member);
     if places.contains_key(&key) {
-        list.push(Some(member))?;
+        list.push(Some(property))?;
         return Ok(Slots { list, places });
     }
     let mut places = places;
     places.insert(key, list.len())?;
-    list.push(Some(member))?;
+    list.push(Some(property))?;
     Ok(Slots { list, places })
 }
 
@@ -73,13 +75,13 @@ pub fn slots_of<'p>(alloc: Global, members: Members<'p>) -> Result<Slots<'p>, Me
 }
 
 /// Members with that of a slot.
-fn with_slot<'p>(members: Members<'p>, slot: Option<Member<'p>>) -> Result<Members<'p>, Memory>
+fn with_slot<'p>(members: Members<'p>, slot: Option<Property<'p>>) -> Result<Members<'p>, Memory>
     ensures { IfOk result (λ ms. ms ≡ members.entry ++ option_to_list slot.entry) }
 {
     let mut members = members;
     match slot {
-        Some(member) => {
-            members.push(member)?;
+        Some(property) => {
+            members.push(property.into_member())?;
             Ok(members)
         }
         None => Ok(members),
@@ -101,9 +103,9 @@ pub fn members_of<'p>(alloc: Global, slots: Slots<'p>) -> Result<Members<'p>, Me
     Ok(members)
 }
 
-/// Moves the member out of a slot.
-fn emptied<'p>(list: &mut Sequence<Option<Member<'p>>>, at: usize) -> Option<Member<'p>>
-    ensures member { result ≡ option_flatten (slice_get list.old at) }
+/// Moves the property out of a slot.
+fn emptied<'p>(list: &mut Sequence<Option<Property<'p>>>, at: usize) -> Option<Property<'p>>
+    ensures property { result ≡ option_flatten (slice_get list.old at) }
     ensures rest { IfSome (slice_get list.old at) (λ s. list.new ≡ slice_set list.old at None) }
 {
     match list.get_mut(at) {
@@ -112,12 +114,12 @@ fn emptied<'p>(list: &mut Sequence<Option<Member<'p>>>, at: usize) -> Option<Mem
     }
 }
 
-/// Moves a member into a slot.
-fn filled<'p>(list: &mut Sequence<Option<Member<'p>>>, at: usize, member: Member<'p>)
-    ensures { IfSome (slice_get list.old at) (λ s. list.new ≡ slice_set list.old at (Some member.entry)) }
+/// Moves a property into a slot.
+fn filled<'p>(list: &mut Sequence<Option<Property<'p>>>, at: usize, property: Property<'p>)
+    ensures { IfSome (slice_get list.old at) (λ s. list.new ≡ slice_set list.old at (Some property.entry)) }
 {
     if let Some(slot) = list.get_mut(at) {
-        *slot = Some(member);
+        *slot = Some(property);
     }
 }
 
@@ -140,19 +142,17 @@ fn slot_changed<'p>(
     let mut list = list;
     match emptied(&mut list, at) {
         None => Err(RuleStop::Fault(Rule::NoSuchPlace)),
-        Some(Member { name, value }) => {
-            match at_place(alloc, path.steps(), action, Some(value))? {
-                Some(value) => {
-                    filled(&mut list, at, Member { name, value });
-                    Ok(Slots { list, places })
-                }
-                None => {
-                    let mut places = places;
-                    places.remove(key);
-                    Ok(Slots { list, places })
-                }
+        Some(property) => match property.edited(alloc, path.steps(), action)? {
+            Some(property) => {
+                filled(&mut list, at, property);
+                Ok(Slots { list, places })
             }
-        }
+            None => {
+                let mut places = places;
+                places.remove(key);
+                Ok(Slots { list, places })
+            }
+        },
     }
 }
 

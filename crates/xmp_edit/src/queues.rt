@@ -1,0 +1,116 @@
+//! The items of an array in a queue: one at either end is put in or taken out without moving the
+//! others, and one elsewhere moves those of the shorter side.
+ghost use Rattle.std.specs.Prelude.{◌≡◌, ◌≤◌, [], ◌∷◌, ◌++◌, length, insert, slice_get, slice_set, IfSome, OnOk};
+ghost use Rattle.xmp_tree.specs.Parts.{simple};
+ghost use Rattle.xmp_tree.specs.Items.{item_put};
+
+use std::alloc::Global;
+use std::collections::VecDeque;
+use std::marker::Model;
+use std::mem;
+use xmp_tree::{Items, Members, Shape, Value};
+use xmp_values::{Memory, Text};
+
+/// Items that contracts see as their list.
+#[derive(Drop)]
+pub struct ItemQueue<'p> {
+    items: VecDeque<Value<'p>>,
+}
+
+impl<'p> Model for ItemQueue<'p> {
+    ghost use Rattle.xmp_edit.specs.Codes.{ItemList, items_code};
+
+    ghost Value = { ItemList };
+
+    ghost coded = { items_code };
+
+    ghost view = { λ q. q.items.items };
+}
+
+/// A text that takes no memory, to stand for an item that is away.
+fn nothing<'p>(alloc: Global) -> Value<'p>
+    ensures { result ≡ simple [] }
+{
+    Value {
+        shape: Shape::Simple(Text::raw(b"".as_slice())),
+        quals: Members::new(alloc),
+    }
+}
+
+impl<'p> ItemQueue<'p> {
+    /// The items in a queue, none of which is moved.
+    pub fn of(items: Items<'p>) -> ItemQueue<'p>
+        ensures { result ≡ items.entry }
+    {
+        ItemQueue {
+            items: VecDeque::from_vec(items.into_vec()),
+        }
+    }
+
+    /// The items.
+    pub fn into_items(self) -> Items<'p>
+        ensures { result ≡ self.entry }
+    {
+        let ItemQueue { items } = self;
+        Items::from_vec(items.into_vec())
+    }
+
+    /// The number of items.
+    pub fn len(&self) -> usize
+        ensures { result ≡ length self.now }
+    {
+        self.items.len()
+    }
+
+    /// Puts an item before that at a place of at most the length.
+    pub fn insert(&mut self, at: usize, item: Value<'p>) -> Result<(), Memory>
+        requires { at ≤ length self.old }
+        ensures { OnOk result (self.new ≡ insert self.old at item.entry) }
+    {
+        self.items.insert(at, item)?;
+        Ok(())
+    }
+
+    /// Puts an item at the end.
+    pub fn push(&mut self, item: Value<'p>) -> Result<(), Memory>
+        ensures { OnOk result (self.new ≡ self.old ++ item.entry ∷ []) }
+    {
+        self.items.push_back(item)?;
+        Ok(())
+    }
+
+    /// Moves an item out. An empty text stands in its place until `refill`.
+    pub fn take(&mut self, alloc: Global, at: usize) -> Option<Value<'p>>
+        ensures value { result ≡ slice_get self.old at }
+        ensures rest { IfSome (slice_get self.old at) (λ v. self.new ≡ slice_set self.old at (simple [])) }
+    {
+        match self.items.get_mut(at) {
+            Some(item) => Some(mem::replace(item, nothing(alloc))),
+            None => None,
+        }
+    }
+
+    /// Moves a value into the place of an item, or takes that out.
+    pub fn refill(self, at: usize, given: Option<Value<'p>>) -> ItemQueue<'p>
+        ensures { IfSome (slice_get self.entry at) (λ v. result ≡ item_put self.entry at given.entry) }
+    {
+        let ItemQueue { items } = self;
+        let mut items = items;
+        match given {
+            Some(value) => put(&mut items, at, value),
+            None => {
+                items.remove(at);
+            }
+        }
+        ItemQueue { items }
+    }
+}
+
+/// Moves a value in.
+fn put<'p>(items: &mut VecDeque<Value<'p>>, at: usize, value: Value<'p>)
+    ensures { IfSome (slice_get items.old.items at) (λ v. items.new.items ≡ slice_set items.old.items at value.entry) }
+{
+    if let Some(item) = items.get_mut(at) {
+        *item = value;
+    }
+}
