@@ -14,22 +14,22 @@ use Rattle.xmp_files.specs.declared.held.Need.TheVariants.{Packet}
 use Rattle.xmp_files.specs.Keeping.{Piece, Kept}
 use Rattle.xmp_files.specs.Loading.{IsLoaded}
 use Rattle.xmp_files.specs.Opening.{IsOpened, HoldsTree, IsWhole}
-use Rattle.xmp_files.specs.Patching.{PatchCall}
+use Rattle.xmp_files.specs.Patching.{FileIsPatched, PatchCall}
 use Rattle.xmp_files.specs.Planning.{Edited, Plan, Same, Agree, planned_file}
 use Rattle.xmp_files.specs.Planneds.{bytes_in}
 use Rattle.xmp_files.specs.Plans.{packet_of}
 use Rattle.xmp_files.proofs.Loads.{spared_none, spared_trans}
-use Rattle.xmp_files.proofs.Patches.{IsExchange}
+use Rattle.xmp_files.proofs.PlanCases.{IsExchange}
 use Rattle.xmp_cli.specs.Commands.{Patch}
 use Rattle.xmp_cli.specs.Answer.{exchange_in, changed}
 use Rattle.xmp_cli.specs.Edits.{Lines, edited_of}
 use Rattle.xmp_cli.specs.EditSteps.{IsPlanOf}
 use Rattle.xmp_cli.specs.Left.{Left, InPatch, Patched}
 use Rattle.xmp_cli.specs.Run.{Touches, Writes}
-use Rattle.xmp_cli.proofs.Agreeing.{put_agrees}
+use Rattle.xmp_files.proofs.Agreeing.{put_agrees}
 use Rattle.xmp_cli.proofs.EditEnds.{Broken, Whole}
 use Rattle.xmp_cli.proofs.Touching.{touches_exchange, touches_trans}
-use Rattle.xmp_cli.proofs.PatchedSidecars.{payload_within, payload_stands, patched_whole}
+use Rattle.xmp_cli.proofs.PatchedFiles.{payload_within, payload_stands, patched_whole}
 use Rattle.xmp_cli.proofs.WrittenEdits.{edited_old, there}
 
 -- what stands in the place of the payload, whether or not the exchange failed
@@ -53,7 +53,7 @@ same_map a b e = cc
 
 module _ (file script : List ℕ) (s t u : DeskState) (same : SameFiles s t) (before : Touches (Some (Patch file script)) s t) (kept : Kept) (opened : Opened) (plan : Plan)
     (loaded : Told s.files (λ files. IsLoaded Packet (get files file) (Ok kept))) (opens : IsOpened kept (Ok opened))
-    (of_run : Told s.files (λ files. PlanOf script files kept opened plan)) where
+    (of_run : Told s.files (λ files. PlanOf script files kept opened plan)) (law : FileIsPatched) where
   held : (files : Files) → s.files ≡ Some files → get files file ≡ Some (bytes_of files file)
   held files e = there (get files file) kept (loaded files e)
 
@@ -74,10 +74,10 @@ module _ (file script : List ℕ) (s t u : DeskState) (same : SameFiles s t) (be
     exchanging files e =
         let bytes : List ℕ = bytes_of files file in
         let r = of_run files e in
-        let within = payload_within bytes kept opened.joined r.edited plan (loaded_bytes files e) r.planned x.old x.there in
+        let within = payload_within bytes kept (loaded_bytes files e) x.old x.there in
         let h = call.payload.files files (same.files ∙ e) bytes (held files e) (omega (arith, within, x.as_long)) in
         let was : take (length new) (drop x.old.at bytes) ≡ bytes_in kept.payload =
-        ap (λ (n : ℕ). take n (drop x.old.at bytes)) x.as_long ∙ payload_stands bytes kept opened.joined r.edited plan (loaded_bytes files e) r.planned x.old x.there ∙ sym (ap bytes_in x.there) in
+        ap (λ (n : ℕ). take n (drop x.old.at bytes)) x.as_long ∙ payload_stands bytes kept (loaded_bytes files e) x.old x.there ∙ sym (ap bytes_in x.there) in
         record {
           now = h.now;
           as_long = h.full ∙ x.as_long;
@@ -92,7 +92,7 @@ module _ (file script : List ℕ) (s t u : DeskState) (same : SameFiles s t) (be
         let bytes : List ℕ = bytes_of files file in
         let after : List ℕ = put_at bytes x.old.at y.now in
         let stands = get-insert_same files file after in
-        let within = payload_within bytes kept opened.joined r.edited plan (loaded_bytes files e) r.planned x.old x.there in
+        let within = payload_within bytes kept (loaded_bytes files e) x.old x.there in
         record {
           kept = kept;
           edited = r.edited;
@@ -105,8 +105,8 @@ module _ (file script : List ℕ) (s t u : DeskState) (same : SameFiles s t) (be
           agrees = subst (λ (l : List ℕ). Agree bytes l (x.old ∷ [])) (sym (ap (λ (o : Option (List ℕ)). unwrap_or o []) stands))
               (put_agrees bytes x.old.at y.now (omega (arith, within, y.as_long)) x.old refl (sym y.as_long));
           whole = subst (λ (f : Option (List ℕ)). IsWhole r.edited.old r.edited.new f) (sym stands)
-              (patched_whole bytes kept opened.joined r.edited plan (loaded_bytes files e) r.planned x.old x.there new y.now x.is y.as_long
-              (left_any result x.old.bytes new y.now y.left) r.scripted (holds files e) r.written);
+              (patched_whole bytes kept (loaded_bytes files e) x.old x.there opened.joined r.edited plan r.planned new y.now x.is y.as_long
+              (left_any result x.old.bytes new y.now y.left) r.scripted (holds files e) r.written law);
         }
 
     touches : Touches (Some (Patch file script)) s u

@@ -11,9 +11,10 @@ use Rattle.xmp_files.specs.Keeping.{Kept}
 use Rattle.xmp_files.specs.Loading.{IsLoaded}
 use Rattle.xmp_files.specs.Opening.{IsOpened}
 use Rattle.xmp_files.specs.Emitting.{EmitCall}
-use Rattle.xmp_files.specs.Patching.{PatchCall}
+use Rattle.xmp_files.specs.Patching.{FileIsPatched, PatchCall}
 use Rattle.xmp_files.specs.Planning.{Edited, Plan, Same, planned_file}
-use Rattle.xmp_files.proofs.Patches.{IsExchange, patch_plan}
+use Rattle.xmp_files.proofs.Patches.{patch_plan}
+use Rattle.xmp_files.proofs.PlanCases.{IsExchange}
 use Rattle.xmp_cli.specs.declared.edits.Edits.{Edits}
 use Rattle.xmp_cli.specs.declared.edits.Edits.TheVariants.{Set, Apply, Patch}
 use Rattle.xmp_cli.specs.Access.{MayRead, MayWrite, file_of, written_of}
@@ -73,15 +74,15 @@ module _ (c : Command) (of : Source) (file out : List ℕ) (s t u : DeskState) (
 -- `patch`
 module _ (file script : List ℕ) (s t u : DeskState) (kept : Kept) (opened : Opened) (plan : Plan) (p : ReadyFor (PatchOf file script) true (Lines script) file s t kept opened plan) where
   exchange : (plan ≡ Same) ⊎ IsExchange kept.payload p.planned.edited plan
-  exchange = patch_plan kept.container kept.payload opened.joined p.planned.edited plan p.planned.scripted p.planned.planned
+  exchange = patch_plan kept opened.joined p.planned.edited plan p.planned.scripted p.planned.planned
 
-  broken_patch : (failed : Failed) → PatchCall t u file kept.payload plan (Err failed) → Broken (PatchOf file script) s u (λ files. exchange_in file (bytes_of files file) plan)
-  broken_patch failed a = patch_broken file script s t u p.same p.before kept opened plan p.loaded p.opens p.of_run p.planned.edited failed exchange a
+  broken_patch : FileIsPatched → (failed : Failed) → PatchCall t u file kept.payload plan (Err failed) → Broken (PatchOf file script) s u (λ files. exchange_in file (bytes_of files file) plan)
+  broken_patch law failed a = patch_broken file script s t u p.same p.before kept opened plan p.loaded p.opens p.of_run law p.planned.edited failed exchange a
 
-  whole_patch : (unit : Unit {0}) → PatchCall t u file kept.payload plan (Ok unit) → Whole (PatchOf file script) s u (λ files. exchange_in file (bytes_of files file) plan)
-  whole_patch unit a = patch_whole file script s t u p.same p.before kept opened plan p.loaded p.opens p.of_run p.planned.edited unit exchange a
+  whole_patch : FileIsPatched → (unit : Unit {0}) → PatchCall t u file kept.payload plan (Ok unit) → Whole (PatchOf file script) s u (λ files. exchange_in file (bytes_of files file) plan)
+  whole_patch law unit a = patch_whole file script s t u p.same p.before kept opened plan p.loaded p.opens p.of_run law p.planned.edited unit exchange a
       (λ files e. writes_of (PatchOf file script) (Lines script) true file file files u kept opened plan (p.loaded files e) p.opens (p.of_run files e) refl refl (λ k d n x. x)
-      (λ now is. patch_there file script s t u p.same p.before kept opened plan p.loaded p.opens p.of_run p.planned.edited unit exchange a files now e is))
+      (λ now is. patch_there file script s t u p.same p.before kept opened plan p.loaded p.opens p.of_run law p.planned.edited unit exchange a files now e is))
 
 -- by the edits
 
@@ -92,7 +93,7 @@ broken_by file (Set out path value) s t u kept opened plan p failed a =
     broken_out (command_of file (Set out path value)) (Given path.now value.now) file out.now s t u kept opened plan p.same p.before p.loaded p.opens p.of_run (inl refl) refl (λ x y. tt) (λ files. tt) failed a
 broken_by file (Apply out script) s t u kept opened plan p failed a =
     broken_out (command_of file (Apply out script)) (Lines script.now) file out.now s t u kept opened plan p.same p.before p.loaded p.opens p.of_run (inl refl) refl (λ x y. tt) (λ files. tt) failed a
-broken_by file (Patch script) s t u kept opened plan p failed a = broken_patch file script.now s t u kept opened plan p failed a
+broken_by file (Patch script) s t u kept opened plan p failed a = broken_patch file script.now s t u kept opened plan p a.1 failed a.0
 
 pub whole_by : (file : List ℕ) (edits : Edits) (s t u : DeskState) (kept : Kept) (opened : Opened) (plan : Plan)
     → ReadyFor (command_of file edits) (is_inside edits) (source edits) file s t kept opened plan → (unit : Unit {0}) → Placed t u kept plan file edits (Ok unit)
@@ -103,4 +104,4 @@ whole_by file (Set out path value) s t u kept opened plan p unit a =
 whole_by file (Apply out script) s t u kept opened plan p unit a =
     whole_out (command_of file (Apply out script)) (Lines script.now) file out.now s t u kept opened plan p.same p.before p.loaded p.opens p.of_run (inl refl) refl (λ x y. tt) (λ files. tt)
     refl refl (λ files k d n x. x) unit a
-whole_by file (Patch script) s t u kept opened plan p unit a = whole_patch file script.now s t u kept opened plan p unit a
+whole_by file (Patch script) s t u kept opened plan p unit a = whole_patch file script.now s t u kept opened plan p a.1 unit a.0

@@ -17,15 +17,14 @@ use Rattle.xmp_files.specs.declared.opening.Opened.{Opened}
 use Rattle.xmp_files.specs.declared.held.Need.TheVariants.{Packet}
 use Rattle.xmp_files.specs.Faults.{no_file}
 use Rattle.xmp_files.specs.Stages.{followed}
-use Rattle.xmp_files.specs.Keeping.{Kept, sidecar}
+use Rattle.xmp_files.specs.Keeping.{Kept}
 use Rattle.xmp_files.specs.Loading.{IsLoaded}
 use Rattle.xmp_files.specs.Opening.{IsOpened, HoldsTree}
 use Rattle.xmp_files.specs.Planning.{Edited, Plan, Frame, planned_file}
 use Rattle.xmp_files.specs.Plans.{IsPlanned, whole_form}
 use Rattle.xmp_files.proofs.OneStep.{one_loaded, one_opened}
 use Rattle.xmp_files.proofs.OnePlan.{one_planned}
-use Rattle.xmp_files.proofs.LoadedKept.{planned_sidecar}
-use Rattle.xmp_files.proofs.Writes.{sidecar_written}
+use Rattle.xmp_files.proofs.Writes.{file_written}
 use Rattle.xmp_cli.specs.Answer.{PlansFor}
 use Rattle.xmp_cli.specs.Edits.{Source, text_of, edits_from, part_of, in_part, with_tree, made, edited_from, edited_of}
 use Rattle.xmp_cli.specs.EditSteps.{IsPlanOf}
@@ -85,23 +84,18 @@ module _ (source : Source) (patch : Bool) (file : List ℕ) (files : Files) (kep
     may : e.new ≢ e.old → MayWrite e.new e.hints (whole_form e.new)
     may = subst (λ (d : Edited). d.new ≢ d.old → MayWrite d.new d.hints (whole_form d.new)) (sym same_edited) of_run.written
 
-    old : List ℕ
-    old = bytes_of files file
-
-    k_is : k ≡ sidecar Packet (bytes_of files file)
-    k_is = (planned_sidecar Packet (get files file) k x.opened.joined patch e n x.loaded x.planned).is
+    here : IsLoaded Packet (Some (bytes_of files file)) (Ok k)
+    here = subst (λ (f : Option (List ℕ)). IsLoaded Packet f (Ok k)) (there (get files file) k x.loaded) x.loaded
 
     holds : HoldsTree (Some (bytes_of files file)) e.old
-    holds = subst (λ (f : Option (List ℕ)). HoldsTree f e.old) (there (get files file) k x.loaded) (x.opened, (Ok k, x.loaded, x.opens), sym (edited_old source files x.opened.meaning e x.edits))
+    holds = (x.opened, (Ok k, here, x.opens), sym (edited_old source files x.opened.meaning e x.edits))
 
-    good : HoldsTree (Some (planned_file (bytes_of files file) n)) e.new × Frame (sidecar Packet (bytes_of files file)) n (bytes_of files file) (planned_file (bytes_of files file) n)
-    good = sidecar_written Packet (bytes_of files file) x.opened.joined patch e n (subst (λ (y : Kept). IsPlanned y x.opened.joined patch e (Ok n)) k_is x.planned) holds
-        (planned_sidecar Packet (get files file) k x.opened.joined patch e n x.loaded x.planned).short may
+    good : HoldsTree (Some (planned_file (bytes_of files file) n)) e.new × Frame k n (bytes_of files file) (planned_file (bytes_of files file) n)
+    good = file_written Packet (bytes_of files file) k x.opened.joined patch e n here x.planned holds may
 
     framed : (before after : List ℕ) → bytes_of files file ≡ before → planned_file (bytes_of files file) n ≡ after → Frame k n before after
     framed before after b a =
-        subst (λ (y : Kept). Frame y n before after) (sym k_is)
-        (subst (λ (f : List ℕ). Frame (sidecar Packet (bytes_of files file)) n before f) a (subst (λ (f : List ℕ). Frame (sidecar Packet (bytes_of files file)) n f (planned_file (bytes_of files file) n)) b good.1))
+        subst (λ (f : List ℕ). Frame k n before f) a (subst (λ (f : List ℕ). Frame k n f (planned_file (bytes_of files file) n)) b good.1)
 
     pub written_is : (new : Option (List ℕ)) → new ≡ Some (planned_file (bytes_of files file) plan) → Written (get files file) new k e n
     written_is new is =

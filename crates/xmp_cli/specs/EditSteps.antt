@@ -17,7 +17,7 @@ use Rattle.xmp_files.specs.Planning.{Edited, Plan}
 use Rattle.xmp_files.specs.Plans.{IsPlanned, whole_form}
 use Rattle.xmp_files.specs.Planneds.{PlannedFile}
 use Rattle.xmp_files.specs.Emitting.{EmitCall}
-use Rattle.xmp_files.specs.Patching.{PatchCall}
+use Rattle.xmp_files.specs.Patching.{FileIsPatched, PatchCall}
 use Rattle.xmp_cli.specs.Answer.{Change, put_out, exchange_in}
 use Rattle.xmp_cli.specs.Commands.{Command, Set as SetOf, Apply as ApplyOf, Patch as PatchOf}
 use Rattle.xmp_cli.specs.Edits.{Source, Given, Lines, text_of, edited_from, edited_of}
@@ -56,6 +56,12 @@ change_of file (Patch script) = exchange_in file
 abbrev pub IsApart : List ℕ → Source → Type 0
 IsApart file (Given path value) = Unit {0}
 IsApart file (Lines script) = file ≢ script
+
+-- FILE isn't OUT
+abbrev pub IsElsewhere : List ℕ → Edits → Type 0
+IsElsewhere file (Set out path value) = file ≢ out.now
+IsElsewhere file (Apply out script) = file ≢ out.now
+IsElsewhere file (Patch script) = Unit {0}
 
 -- the fault that a stop tells; none where memory or a device failed
 abbrev pub told_by : FileStop → Option Fault
@@ -117,11 +123,11 @@ pub record PlanCall (source : Source) (patch : Bool) (s t : DeskState) (kept : K
 abbrev pub IsScriptPlan : Kept → Bool → Plan → Type 0
 IsScriptPlan kept patch plan = (joined : Bool) × (edited : Edited) × (edited.digest ≡ None) × IsPlanned kept joined patch edited (Ok plan)
 
--- OUT was written, or the packet exchanged inside FILE
+-- OUT was written, or the packet exchanged inside FILE, which is then read as the old tree, as the new one, or is refused
 abbrev pub Placed : DeskState → DeskState → Kept → Plan → List ℕ → Edits → Result (Unit {0}) Failed → Type 0
 Placed s t kept plan file (Set out path value) result = EmitCall s t plan kept.size file out.now result
 Placed s t kept plan file (Apply out script) result = EmitCall s t plan kept.size file out.now result
-Placed s t kept plan file (Patch script) result = PatchCall s t file kept.payload plan result
+Placed s t kept plan file (Patch script) result = PatchCall s t file kept.payload plan result × FileIsPatched
 
 -- The change of a plan was made, and then its report sent; or the first of both failed.
 abbrev pub Finished : (s t : DeskState) (o p : SinkState) (kept : Kept) (planned : PlannedFile) (file : List ℕ) (edits : Edits) → Result (Unit {0}) Failed → Type 0

@@ -5,7 +5,7 @@ ghost use Rattle.std.specs.FinMap.{get};
 ghost use Rattle.xmp_base.specs.Device.{Told};
 ghost use Rattle.xmp_files.specs.Loading.{IsLoaded};
 ghost use Rattle.xmp_files.specs.Loads.{IsOfSize};
-ghost use Rattle.xmp_cli.specs.EditSteps.{source, command_of, is_inside, IsApart, IsScriptPlan, Placed, Finished};
+ghost use Rattle.xmp_cli.specs.EditSteps.{source, command_of, is_inside, IsApart, IsElsewhere, IsScriptPlan, Placed, Finished};
 ghost use Rattle.xmp_cli.specs.Run.{RunCall, Refuses};
 
 use crate::edits::{Edits, plan_of};
@@ -29,6 +29,7 @@ fn place<D: Desk>(
     requires known { get (D.state desk.old).lens file.now ≡ Some held.now.size }
     requires lies { IsOfSize held.now.size held.now }
     requires planned { IsScriptPlan held.now (is_inside edits) planned.now.plan }
+    requires elsewhere { IsElsewhere file.now edits }
     ensures call { Placed (D.state desk.old) (D.state desk.new) held.now planned.now.plan file.now edits.entry result }
 {
     match edits {
@@ -50,6 +51,7 @@ fn finish<D: Desk, O: Sink>(
     requires known { get (D.state desk.old).lens file.now ≡ Some held.now.size }
     requires lies { IsOfSize held.now.size held.now }
     requires planned { IsScriptPlan held.now (is_inside edits) planned.now.plan }
+    requires elsewhere { IsElsewhere file.now edits }
     ensures call { Finished (D.state desk.old) (D.state desk.new) (O.state out.old) (O.state out.new) held.now planned.now file.now edits.entry result }
 {
     let report = report_of(planned);
@@ -66,6 +68,7 @@ pub fn edit<D: Desk, O: Sink>(
     edits: Edits<'_>,
 ) -> Status
     requires apart { IsApart file.now (source edits) }
+    requires elsewhere { IsElsewhere file.now edits }
     ensures call { RunCall (Some (command_of file.now edits.entry)) (D.state desk.old) (D.state desk.new) (O.state out.old) (O.state out.new) result }
     ensures refuses { Refuses (Some (command_of file.now edits.entry)) (D.state desk.new) result }
 {

@@ -15,3 +15,9 @@ pub mod OnePlan
 pub mod LoadedKept
 pub mod MayBeWritten
 pub mod Patches
+pub mod PlanCases
+pub mod ExchangedPackets
+pub mod OpenPackets
+pub mod WrittenPhotographs
+pub mod Agreeing
+pub mod ClosedPackets

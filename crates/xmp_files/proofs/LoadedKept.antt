@@ -1,5 +1,5 @@
 -- What is kept of a loaded file has its length, and what was asked for.
-use Rattle.std.proofs.Common.{◌≡◌, ◌∙◌, ℕ, ◌≤◌, List, [], length, Bool, true, false, Ok, Err, ap, refl, if◌then◌else◌}
+use Rattle.std.proofs.Common.{◌≡◌, ◌⊎◌, ◌∙◌, ℕ, ◌≤◌, List, [], length, Bool, true, false, Ok, Err, Some, None, inl, inr, sym, subst, ap, refl, if◌then◌else◌}
 use Rattle.std.specs.Prelude.{nat_lt}
 use Rattle.std.specs.declared.option.Option.{Option}
 use Rattle.std.specs.declared.result.Result.{Result}
@@ -9,14 +9,11 @@ use Rattle.xmp_values.specs.declared.faults.Fault.{Fault}
 use Rattle.xmp_files.specs.declared.kinds.Kind.{Kind}
 use Rattle.xmp_files.specs.declared.kinds.Kind.TheVariants.{Jpeg, Sidecar}
 use Rattle.xmp_files.specs.declared.held.Need.{Need}
-use Rattle.xmp_files.specs.Faults.{packet_limit, over_packet, not_built}
+use Rattle.xmp_files.specs.Faults.{file_limit, over_limit, packet_limit, over_packet, not_built}
 use Rattle.xmp_files.specs.Stages.{followed, Followed}
-use Rattle.xmp_files.specs.Keeping.{Text, Kept, sidecar}
-use Rattle.xmp_files.specs.Photographs.{IsCut}
-use Rattle.xmp_files.specs.Loading.{kind_of_file, limited, IsKept, IsLoaded}
-use Rattle.xmp_files.specs.Planning.{Edited, Plan}
-use Rattle.xmp_files.specs.Plans.{IsPlanned}
-use Rattle.xmp_files.proofs.Emits.{planned_text}
+use Rattle.xmp_files.specs.Keeping.{Piece, Text, Kept, sidecar}
+use Rattle.xmp_files.specs.Photographs.{IsPhotograph, IsCut}
+use Rattle.xmp_files.specs.Loading.{known, kind_of_file, limited, limited_by, IsKept, IsLoaded}
 use Rattle.xmp_files.proofs.PacketLengths.{is_sidecar, sidecar_kept, limited_keeps, cut_no_text}
 
 -- FILE is a sidecar within the limit
@@ -42,10 +39,53 @@ loaded_sidecar need file kept h text = record {
   short = short_kept need (unwrap_or file []) (kind_of_file file) kept h text;
 }
 
--- a file that has a plan is a sidecar
-pub planned_sidecar : (need : Need) (file : Option (List ℕ)) (kept : Kept) (joined patch : Bool) (e : Edited) (plan : Plan) → IsLoaded need file (Ok kept) → IsPlanned kept joined patch e (Ok plan)
-    → IsSidecarOf need (unwrap_or file []) kept
-planned_sidecar need file kept joined patch e plan h p = loaded_sidecar need file kept h (planned_text kept plan (joined, patch, e, p))
+-- FILE is a JPEG file, whose payload is within the limit
+pub record IsPhotographOf (need : Need) (bytes : List ℕ) (kept : Kept) : Type 0 where
+  pub is : IsPhotograph need bytes kept
+  pub short : (q : Piece) → kept.payload ≡ Some q → length q.bytes ≤ packet_limit
+
+limited_short : (kept other : Kept) (payload : Option Piece) → Ok kept ≡ limited_by other payload → (q : Piece) → payload ≡ Some q → length q.bytes ≤ packet_limit
+limited_short kept other None e q is = absurd (cc is)
+limited_short kept other (Some p) e q is =
+    let same : p ≡ q = cc is in
+    subst (λ (x : Piece). length x.bytes ≤ packet_limit) same
+    (ltb-false packet_limit (length p.bytes) (short_by (nat_lt packet_limit (length p.bytes)) kept other (over_packet (length p.bytes)) e))
+
+cut_photograph : (need : Need) (bytes : List ℕ) (held : Result Kept Fault) (kept : Kept) → IsCut need bytes held → Ok kept ≡ followed held limited → IsPhotographOf need bytes kept
+cut_photograph need bytes (Err fault) kept cut e = let bad : Ok kept ≡ Err fault = e in absurd (cc bad)
+cut_photograph need bytes (Ok other) kept cut e =
+    let same : kept ≡ other = limited_keeps kept other other.payload e in
+    record {
+      is = subst (IsPhotograph need bytes) (sym same) cut;
+      short = λ q is. limited_short kept other other.payload e q (sym (ap (λ (k : Kept). k.payload) same) ∙ is);
+    }
+
+-- what is kept of a loaded file is that of a sidecar, or of a JPEG file
+abbrev pub LoadedAs : Need → List ℕ → Kept → Type 0
+LoadedAs need bytes kept = IsSidecarOf need bytes kept ⊎ IsPhotographOf need bytes kept
+
+as_kind : (need : Need) (bytes : List ℕ) (by : Result Kind Fault) (kept : Kept) → Followed by (IsKept need bytes) (Ok kept) → LoadedAs need bytes kept
+as_kind need bytes (Err fault) kept h = absurd (cc h)
+as_kind need bytes (Ok Jpeg) kept h = inr (cut_photograph need bytes h.0 kept h.1 h.2)
+as_kind need bytes (Ok Sidecar) kept h = inl (record {
+  is = sidecar_kept need bytes kept h;
+  short = ltb-false packet_limit (length bytes)
+      (short_by (nat_lt packet_limit (length bytes)) kept (sidecar need bytes) (over_packet (length bytes)) (h.2 ∙ ap (λ (r : Result Kept Fault). followed r limited) h.1));
+})
+as_kind need bytes (Ok kind) kept h =
+    let bad : Ok kept ≡ Err not_built = h.2 ∙ ap (λ (r : Result Kept Fault). followed r limited) h.1 in absurd (cc bad)
+
+pub loaded_as : (need : Need) (bytes : List ℕ) (kept : Kept) → IsLoaded need (Some bytes) (Ok kept) → LoadedAs need bytes kept
+loaded_as need bytes kept h = as_kind need bytes (kind_of_file (Some bytes)) kept h
+
+small_by : (need : Need) (bytes : List ℕ) (kept : Kept) (over : Bool) → nat_lt file_limit (length bytes) ≡ over
+    → Followed (followed (if over then Err (over_limit (length bytes)) else Ok bytes) known) (IsKept need bytes) (Ok kept) → length bytes ≤ file_limit
+small_by need bytes kept true e h = let bad : Ok kept ≡ Err (over_limit (length bytes)) = h in absurd (cc bad)
+small_by need bytes kept false e h = ltb-false file_limit (length bytes) e
+
+-- a loaded file is within the limit
+pub loaded_small : (need : Need) (bytes : List ℕ) (kept : Kept) → IsLoaded need (Some bytes) (Ok kept) → length bytes ≤ file_limit
+loaded_small need bytes kept h = small_by need bytes kept (nat_lt file_limit (length bytes)) refl h
 
 -- the length of the file, and what was asked for
 record Asks (need : Need) (bytes : List ℕ) (kept : Kept) : Type 0 where

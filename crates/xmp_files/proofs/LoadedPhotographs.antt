@@ -112,7 +112,7 @@ main_region : (regions : List Region) (payload : FileSpan) (found : Option Regio
 main_region regions payload None e = absurd (cc e)
 main_region regions payload (Some r) e = (r, refl, cc e)
 
-main_of : (regions : List Region) (payload : FileSpan) → main_payload regions ≡ Some payload → (r : Region) × MainAt regions r × (r.payload ≡ payload)
+pub main_of : (regions : List Region) (payload : FileSpan) → main_payload regions ≡ Some payload → (r : Region) × MainAt regions r × (r.payload ≡ payload)
 main_of regions payload e =
     let m = main_region regions payload (slice_get (mains regions) 0) e in
     (m.0, main_at regions 0 m.0 m.1, m.2)

@@ -3,10 +3,10 @@ use Rattle.std.proofs.Common.{◌≡◌, ◌∙◌, ◌+◌, Bool, true, false, 
 use Rattle.std.specs.declared.result.Result.{Result}
 use Rattle.xmp_values.specs.declared.faults.Fault.{Fault}
 use Rattle.xmp_values.specs.declared.rules.Rule.TheVariants.{NoFile, NotBuilt}
-use Rattle.xmp_files.specs.Keeping.{Piece, Container, Text, Segments, Kept}
+use Rattle.xmp_files.specs.Keeping.{Container, Text, Segments, Kept}
 use Rattle.xmp_files.specs.Faults.{over_packet, not_built}
 use Rattle.xmp_files.specs.Planning.{Edited, Plan}
-use Rattle.xmp_files.specs.Plans.{IsRelocation, OrRelocation, IsEdited, IsWrittenIn, IsPlanned, unmoved, needs_relocation, padding, least_of, told, room_of, fits, stays}
+use Rattle.xmp_files.specs.Plans.{IsRelocation, OrRelocation, IsPlanned, unmoved, needs_relocation, padding, least_of, told, room_of, fits, stays}
 
 one_relocation : (container : Container) (e : Edited) (a b : Result Plan Fault) → IsRelocation container e a → IsRelocation container e b → a ≡ b
 one_relocation Text e a b p q = p ∙ sym q
@@ -16,18 +16,11 @@ one_moved : (known : Option (Result Plan Fault)) (container : Container) (e : Ed
 one_moved (Some known) container e a b p q = p ∙ sym q
 one_moved None container e a b p q = one_relocation container e a b p q
 
-one_edited : (payload : Option Piece) (joined patch : Bool) (e : Edited) (a b : Result Plan Fault) → IsEdited payload Text joined patch e a → IsEdited payload Text joined patch e b → a ≡ b
-one_edited payload joined patch e a b (inl p) (inl q) = p.1 ∙ sym q.1
-one_edited payload joined patch e a b (inl p) (inr q) = absurd (q.0 p.0)
-one_edited payload joined patch e a b (inr p) (inl q) = absurd (p.0 q.0)
-one_edited payload joined patch e a b (inr p) (inr q) = one_moved (unmoved payload Text joined patch e) Text e a b p.1 q.1
-
-one_written : (c : Container) (payload : Option Piece) (joined patch : Bool) (e : Edited) (a b : Result Plan Fault) → IsWrittenIn c payload joined patch e a → IsWrittenIn c payload joined patch e b → a ≡ b
-one_written Text payload joined patch e a b p q = one_edited payload joined patch e a b p q
-one_written (Segments regions) payload joined patch e a b p q = p ∙ sym q
-
 pub one_planned : (kept : Kept) (joined patch : Bool) (e : Edited) (a b : Result Plan Fault) → IsPlanned kept joined patch e a → IsPlanned kept joined patch e b → a ≡ b
-one_planned kept joined patch e a b p q = one_written kept.container kept.payload joined patch e a b p q
+one_planned kept joined patch e a b (inl p) (inl q) = p.1 ∙ sym q.1
+one_planned kept joined patch e a b (inl p) (inr q) = absurd (q.0 p.0)
+one_planned kept joined patch e a b (inr p) (inl q) = absurd (p.0 q.0)
+one_planned kept joined patch e a b (inr p) (inr q) = one_moved (unmoved kept.payload kept.container joined patch e) kept.container e a b p.1 q.1
 
 -- No plan is refused as that of a file that isn't there.
 
@@ -47,15 +40,8 @@ moved_there false true patch f g inside container e fault not_f not_g h rule = l
 moved_there false false true f g inside container e fault not_f not_g h rule = not_g (let is : (let r : Result Plan Fault = Err fault in r) ≡ Err g = h in cc)
 moved_there false false false f g inside container e fault not_f not_g h rule = relocation_there container e fault h rule
 
-edited_there : (payload : Option Piece) (joined patch : Bool) (e : Edited) (fault : Fault) → IsEdited payload Text joined patch e (Err fault) → fault.rule ≡ NoFile → ⊥
-edited_there payload joined patch e fault (inl h) rule = let bad : (let r : Result Plan Fault = Err fault in r) ≡ Ok (stays Text e.digest) = h.1 in cc
-edited_there payload joined patch e fault (inr h) rule =
-    moved_there _ (fits payload joined (least_of e)) patch (over_packet (told (least_of e + padding))) (needs_relocation (told (least_of e)) (room_of payload)) _ Text e fault
-    (λ x. cc) (λ x. cc) h.1 rule
-
-written_there : (c : Container) (payload : Option Piece) (joined patch : Bool) (e : Edited) (fault : Fault) → IsWrittenIn c payload joined patch e (Err fault) → fault.rule ≡ NoFile → ⊥
-written_there Text payload joined patch e fault h rule = edited_there payload joined patch e fault h rule
-written_there (Segments regions) payload joined patch e fault h rule = unbuilt_there fault h rule
-
 pub planned_there : (kept : Kept) (joined patch : Bool) (e : Edited) (fault : Fault) → IsPlanned kept joined patch e (Err fault) → fault.rule ≡ NoFile → ⊥
-planned_there kept joined patch e fault h rule = written_there kept.container kept.payload joined patch e fault h rule
+planned_there kept joined patch e fault (inl h) rule = let bad : (let r : Result Plan Fault = Err fault in r) ≡ Ok (stays kept.container e.digest) = h.1 in cc
+planned_there kept joined patch e fault (inr h) rule =
+    moved_there _ (fits kept.payload joined (least_of e)) patch (over_packet (told (least_of e + padding))) (needs_relocation (told (least_of e)) (room_of kept.payload)) _ kept.container e fault
+    (λ x. cc) (λ x. cc) h.1 rule

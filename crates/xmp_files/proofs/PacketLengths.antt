@@ -67,47 +67,6 @@ is_sidecar need bytes (Ok Sidecar) kept h text =
 is_sidecar need bytes (Ok kind) kept h text =
     let bad : Ok kept ≡ Err not_built = h.2 ∙ ap (λ (r : Result Kept Fault). followed r limited) h.1 in absurd (cc bad)
 
--- what the bytes of a new file are, and how many
-pub record IsNewFile (old : List ℕ) (plan : Plan) : Type 0 where
-  pub is : new_packet (Some (record { at = 0; bytes = old })) plan ≡ planned_file old plan
-  pub size : length (planned_file old plan) ≡ planned_len (length old) plan
-
 -- a packet as long as the file, over it
 pub over_all : (old new : List ℕ) → length new ≡ length old → put_at old 0 new ≡ new
 over_all old new same = ap (λ (l : List ℕ). new ++ l) (drop_all (0 + length new) old (omega (arith, same))) ∙ append-nil new
-
-exchanged_new : (old new : List ℕ) → length new ≡ length old → IsNewFile old (InPlace (record { at = 0; bytes = new } ∷ []))
-exchanged_new old new same = record { is = sym (over_all old new same); size = ap length (over_all old new same) ∙ same }
-
-stays_new : (old : List ℕ) (digest : Option (List ℕ)) (plan : Plan) → plan ≡ stays Text digest → IsNewFile old plan
-stays_new old None plan is = subst (IsNewFile old) (sym is) (record { is = refl; size = refl })
-stays_new old (Some digest) plan is = subst (IsNewFile old) (sym is) (record { is = refl; size = refl })
-
--- how a changed tree comes to a plan
-pub moved_cases : (over fit patch : Bool) (f g : Fault) (inside : Plan) (e : Edited) (plan : Plan)
-    → OrRelocation (if over then Some (Err f) else (if fit then Some (Ok inside) else (if patch then Some (Err g) else None))) Text e (Ok plan)
-    → ((over ≡ false) × (fit ≡ true) × (plan ≡ inside)) ⊎ ((over ≡ false) × (plan ≡ Relocated (packet_of e (least_of e + padding))))
-moved_cases true fit patch f g inside e plan h = absurd (let bad : Ok plan ≡ Err f = h in cc)
-moved_cases false true patch f g inside e plan h = inl (refl, refl, let is : Ok plan ≡ Ok inside = h in cc)
-moved_cases false false true f g inside e plan h = absurd (let bad : Ok plan ≡ Err g = h in cc)
-moved_cases false false false f g inside e plan h = inr (refl, let is : Ok plan ≡ Ok (Relocated (packet_of e (least_of e + padding))) = h in cc)
-
--- a packet that fits is as long as the file
-pub fit_length : (old : List ℕ) (joined : Bool) (e : Edited) → fits (Some (record { at = 0; bytes = old })) joined (least_of e) ≡ true → length (packet_of e (length old)) ≡ length old
-fit_length old joined e fit =
-    let inner = and_parts (not joined) (is_writable old && nat_le (least_of e) (length old)) fit in
-    let last = and_parts (is_writable old) (nat_le (least_of e) (length old)) inner.1 in
-    length-packet _ e.new (whole_form e.new) (length old) (leb-true _ _ last.1)
-
--- the plan of a sidecar has its new file
-pub planned_new : (need : Need) (old : List ℕ) (joined patch : Bool) (e : Edited) (plan : Plan) → IsPlanned (sidecar need old) joined patch e (Ok plan) → IsNewFile old plan
-planned_new need old joined patch e plan (inl h) = stays_new old e.digest plan (let is : Ok plan ≡ Ok (stays Text e.digest) = h.1 in cc)
-planned_new need old joined patch e plan (inr h) =
-    let inside : Plan = InPlace (record { at = 0; bytes = packet_of e (length old) } ∷ []) in
-    by_case (moved_cases (nat_lt packet_limit (least_of e + padding)) (fits (Some (record { at = 0; bytes = old })) joined (least_of e)) patch (over_packet (told (least_of e + padding)))
-    (needs_relocation (told (least_of e)) (length old)) inside e plan h.1)
-  where
-    by_case : ((nat_lt packet_limit (least_of e + padding) ≡ false) × (fits (Some (record { at = 0; bytes = old })) joined (least_of e) ≡ true) × (plan ≡ InPlace (record { at = 0; bytes = packet_of e (length old) } ∷ [])))
-        ⊎ ((nat_lt packet_limit (least_of e + padding) ≡ false) × (plan ≡ Relocated (packet_of e (least_of e + padding)))) → IsNewFile old plan
-    by_case (inl c) = subst (IsNewFile old) (sym c.2) (exchanged_new old (packet_of e (length old)) (fit_length old joined e c.1))
-    by_case (inr c) = subst (IsNewFile old) (sym c.1) (record { is = refl; size = refl })

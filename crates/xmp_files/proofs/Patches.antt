@@ -16,11 +16,13 @@ use Rattle.xmp_tree.specs.Parts.{Parts}
 use Rattle.xmp_packets.specs.Packets.{is_writable, packet_text}
 use Rattle.xmp_write.specs.declared.forms.Form.{Form}
 use Rattle.xmp_write.specs.WrittenPackets.{packet}
-use Rattle.xmp_base.specs.Device.{DeskState}
+use Rattle.xmp_base.specs.Device.{DeskState, put_at}
+use Rattle.xmp_base.proofs.Ranges.{put_same}
 use Rattle.xmp_base.specs.declared.device.Failed.{Failed}
 use Rattle.packet_exchange.specs.Closing.{is_open, Closed, ExchangeCall}
 use Rattle.xmp_files.specs.declared.kinds.Kind.{Kind}
 use Rattle.xmp_files.specs.declared.kinds.Kind.TheVariants.{Jpeg, Tiff, BigTiff, WebP, Psd, Sidecar}
+use Rattle.xmp_files.specs.declared.held.Need.{Need}
 use Rattle.xmp_files.specs.declared.held.Need.TheVariants.{Packet}
 use Rattle.xmp_files.specs.Faults.{packet_limit, over_packet, file_limit, over_limit, not_known, not_built}
 use Rattle.xmp_files.specs.Kinds.{kind_of, kind_of_head, is_jpeg, is_tiff, is_big_tiff, is_webp, is_psd, is_markup, is_sidecar, without_mark, begins}
@@ -29,23 +31,16 @@ use Rattle.xmp_files.specs.Keeping.{Piece, Container, Text, Segments, Kept, side
 use Rattle.xmp_files.specs.Loading.{known, kind_of_file, IsKept, IsLoaded}
 use Rattle.xmp_files.specs.Opening.{Holds, IsWhole, HoldsTree}
 use Rattle.xmp_files.specs.Planning.{Edited, Plan, Same, InPlace, planned_file}
-use Rattle.xmp_files.specs.Plans.{packet_of, least_of, padding, fits, fits_payload, exchanged, digest_pieces, whole_form, told, needs_relocation, room_of, place_of, IsEdited, IsWrittenIn, OrRelocation, stays}
+use Rattle.xmp_files.specs.Plans.{packet_of, least_of, padding, fits, fits_payload, exchanged, digest_pieces, whole_form, told, needs_relocation, room_of, place_of, IsEdited, IsPlanned, OrRelocation, stays}
 use Rattle.xmp_files.specs.Loads.{PayloadLies, IsOfSize}
-use Rattle.xmp_files.specs.Patching.{IsLeft, IsPatchPlan, PatchCall, SidecarIsPatched, new_payload}
-use Rattle.xmp_files.proofs.PacketLengths.{length-packet, over_all}
-use Rattle.xmp_files.proofs.Writes.{sidecar_written}
-
--- the packet of a plan that exchanges it
-pub record IsExchange (payload : Option Piece) (e : Edited) (plan : Plan) : Type 0 where
-  pub old : Piece
-  pub there : payload ≡ Some old
-  pub is : plan ≡ InPlace (record { at = old.at; bytes = packet_of e (length old.bytes) } ∷ [])
-  pub as_long : length (packet_of e (length old.bytes)) ≡ length old.bytes
-  pub writable : is_writable old.bytes ≡ true
-
-no_digest : (container : Container) → digest_pieces container None ≡ []
-no_digest Text = refl
-no_digest (Segments regions) = refl
+use Rattle.xmp_files.specs.Patching.{IsLeft, IsPatchPlan, PatchCall, DocumentOrFault, FileIsPatched, new_payload}
+use Rattle.xmp_files.proofs.ClosedPackets.{closed_some, photograph_refused}
+use Rattle.xmp_files.proofs.ExchangedPackets.{Stands, loaded_stands, same_piece, whole_piece}
+use Rattle.xmp_files.proofs.LoadedKept.{LoadedAs, loaded_as, loaded_small}
+use Rattle.xmp_files.proofs.OpenPackets.{writable_open, packet_open}
+use Rattle.xmp_files.proofs.PacketLengths.{over_all}
+use Rattle.xmp_files.proofs.PlanCases.{IsExchange, exchange_of}
+use Rattle.xmp_files.proofs.Writes.{file_written}
 
 patch_cases : (over fit : Bool) (f g : Fault) (inside : Plan) (container : Container) (e : Edited) (plan : Plan)
     → OrRelocation (if over then Some (Err f) else (if fit then Some (Ok inside) else (if true then Some (Err g) else None))) container e (Ok plan)
@@ -54,53 +49,17 @@ patch_cases true fit f g inside container e plan h = absurd (let bad : Ok plan �
 patch_cases false true f g inside container e plan h = (refl, let is : Ok plan ≡ Ok inside = h in cc)
 patch_cases false false f g inside container e plan h = absurd (let bad : Ok plan ≡ Err g = h in cc)
 
--- a packet that fits is exchanged
-exchange_of : (payload : Option Piece) (container : Container) (joined : Bool) (e : Edited) (plan : Plan) → e.digest ≡ None → fits payload joined (least_of e) ≡ true
-    → plan ≡ InPlace (exchanged payload e ++ digest_pieces container e.digest) → IsExchange payload e plan
-exchange_of None container joined e plan fixed fit is =
-    let parts = and_parts (not joined) false fit in
-    let never : false ≡ true = parts.1 in
-    absurd cc
-exchange_of (Some old) container joined e plan fixed fit is =
-    let inner = and_parts (not joined) (fits_payload (Some old) (least_of e)) fit in
-    let last = and_parts (is_writable old.bytes) (nat_le (least_of e) (length old.bytes)) inner.1 in
-    record {
-      old = old;
-      there = refl;
-      is = is ∙ ap (λ (l : List Piece). InPlace (record { at = old.at; bytes = packet_of e (length old.bytes) } ∷ l)) (ap (digest_pieces container) fixed ∙ no_digest container);
-      as_long = length-packet _ e.new (whole_form e.new) (length old.bytes) (leb-true _ _ last.1);
-      writable = last.0;
-    }
-
 edited_plan : (payload : Option Piece) (container : Container) (joined : Bool) (e : Edited) (plan : Plan) → e.digest ≡ None → IsEdited payload container joined true e (Ok plan)
     → (plan ≡ Same) ⊎ IsExchange payload e plan
 edited_plan payload container joined e plan fixed (inl h) = inl (let is : Ok plan ≡ Ok (stays container e.digest) = h.1 in let same : stays container e.digest ≡ Same = ap (stays container) fixed in cc)
 edited_plan payload container joined e plan fixed (inr h) =
     let c = patch_cases (nat_lt packet_limit (least_of e + padding)) (fits payload joined (least_of e)) (over_packet (told (least_of e + padding)))
     (needs_relocation (told (least_of e)) (room_of payload)) (InPlace (exchanged payload e ++ digest_pieces container e.digest)) container e plan h.1 in
-    inr (exchange_of payload container joined e plan fixed c.0 c.1)
+    inr (exchange_of payload container joined e plan c.0 c.1)
 
 -- without a digest and without relocation the file stays, or its packet is exchanged
-pub patch_plan : (container : Container) (payload : Option Piece) (joined : Bool) (e : Edited) (plan : Plan) → e.digest ≡ None → IsWrittenIn container payload joined true e (Ok plan)
-    → (plan ≡ Same) ⊎ IsExchange payload e plan
-patch_plan Text payload joined e plan fixed h = edited_plan payload Text joined e plan fixed h
-patch_plan (Segments regions) payload joined e plan fixed h = absurd (let bad : Ok plan ≡ Err not_built = h in cc)
-
--- a payload whose packet may be written begins as one
-taken_open : (n : ℕ) (l : List ℕ) → starts_with nat_eq (take n l) (codes "<?xpacket begin=") ≡ true → IsTrue (is_open l)
-taken_open n l h =
-    let front : take n l ≡ codes "<?xpacket begin=" ++ drop 16 (take n l) = (starts_is Decides-eqb (take n l) (codes "<?xpacket begin=") true (sym h)).0 refl in
-    let whole : l ≡ (codes "<?xpacket begin=" ++ drop 16 (take n l)) ++ drop n l = sym (take-append-drop n l) ∙ ap (λ (k : List ℕ). k ++ drop n l) front in
-    subst (λ (k : List ℕ). IsTrue (is_open k)) (sym whole) refl
-
-pub writable_open : (payload : List ℕ) → is_writable payload ≡ true → IsTrue (is_open payload)
-writable_open payload h =
-    let parts = and_parts (starts_with nat_eq (packet_text payload) (codes "<?xpacket begin=")) _ h in
-    taken_open _ payload parts.0
-
-pub packet_open : (ps : List Hint) (t : Parts) (form : Form) (len : ℕ) → IsTrue (is_open (packet ps t form len))
-unfolding packet
-packet_open ps t form len = refl
+pub patch_plan : (kept : Kept) (joined : Bool) (e : Edited) (plan : Plan) → e.digest ≡ None → IsPlanned kept joined true e (Ok plan) → (plan ≡ Same) ⊎ IsExchange kept.payload e plan
+patch_plan kept joined e plan fixed h = edited_plan kept.payload kept.container joined e plan fixed h
 
 -- tests that fail in their second part
 no_second : (a : Bool) → (a && false) ≡ false
@@ -165,31 +124,47 @@ closed_refused now short closed =
     let is_loaded : IsLoaded Packet (Some now) (Err not_known) = subst (λ (x : Result Kind Fault). Followed x (IsKept Packet now) (Err not_known)) (sym there) refl in
     (Err not_known, is_loaded, refl)
 
-pub sidecar_patched : SidecarIsPatched
-sidecar_patched need old joined e plan fixed planned holds short may now size left = by_plan (patch_plan Text (Some (record { at = 0; bytes = old })) joined e plan fixed planned)
+module _ (decided : DocumentOrFault) (need : Need) (old : List ℕ) (kept : Kept) (e : Edited) (plan : Plan) (loaded : IsLoaded need (Some old) (Ok kept)) (holds : HoldsTree (Some old) e.old)
+    (payload : Piece) (there : kept.payload ≡ Some payload) (now : List ℕ) (as_long : length now ≡ length payload.bytes) where
+  stands : Stands old payload
+  stands = loaded_stands need old kept payload loaded there
+
+  -- the old packet over itself
+  left_old : now ≡ payload.bytes → HoldsTree (Some (put_at old payload.at now)) e.old
+  left_old is =
+      let same : put_at old payload.at now ≡ old = ap (put_at old payload.at) (is ∙ sym stands.there) ∙ sym (put_same payload.at (length payload.bytes) old stands.within) in
+      subst (λ (file : List ℕ). HoldsTree (Some file) e.old) (sym same) holds
+
+  -- a closed packet is refused: a sidecar as a file of no kind, and a JPEG file by its packet's XML
+  closed_by : Closed now → LoadedAs need old kept → (fault : Fault) × Holds (Some (put_at old payload.at now)) (Err fault)
+  closed_by closed (inl s) =
+      let is : whole_piece old ≡ payload = same_piece (whole_piece old) payload (sym (ap (λ (k : Kept). k.payload) s.is) ∙ there) in
+      let whole : put_at old payload.at now ≡ now = subst (λ (q : Piece). length now ≡ length q.bytes → put_at old q.at now ≡ now) is (λ same. over_all old now same) as_long in
+      (not_known, subst (λ (file : List ℕ). Holds (Some file) (Err not_known)) (sym whole) (closed_refused now (omega (arith, as_long, stands.short)) closed))
+  closed_by closed (inr p) =
+      photograph_refused decided need old kept p.is payload there now as_long (closed_some now closed) (loaded_small need old kept loaded) (omega (arith, as_long, stands.short)) closed
+
+  module _ (exchanged_holds : HoldsTree (Some (planned_file old plan)) e.new) (x : IsExchange kept.payload e plan) (left : IsLeft payload.bytes plan now) where
+    same : x.old ≡ payload
+    same = let h : Some payload ≡ Some x.old = sym there ∙ x.there in sym cc
+
+    new_file : now ≡ packet_of e (length x.old.bytes) → planned_file old plan ≡ put_at old payload.at now
+    new_file is = ap (planned_file old) x.is ∙ (λ i. put_at old (same i).at (sym is i))
+
+    exchange_left : IsWhole e.old e.new (Some (put_at old payload.at now))
+    exchange_left = elim (subst (λ (p : Plan). IsLeft payload.bytes p now) x.is left) [
+      | inl is ↦ inl (left_old is)
+      | inr (inl is) ↦ inr (inl (subst (λ (file : List ℕ). HoldsTree (Some file) e.new) (new_file is) exchanged_holds))
+      | inr (inr closed) ↦ inr (inr (closed_by closed (loaded_as need old kept loaded)))
+    ]
+
+pub file_patched : DocumentOrFault → FileIsPatched
+file_patched decided need old kept joined e plan loaded fixed planned holds may payload there now as_long left = by_plan (patch_plan kept joined e plan fixed planned)
   where
-    by_exchange : plan ≡ InPlace (record { at = 0; bytes = packet_of e (length old) } ∷ []) → length (packet_of e (length old)) ≡ length old → IsWhole e.old e.new (Some now)
-    by_exchange is as_long =
-        let new : List ℕ = packet_of e (length old) in
-        let file : planned_file old plan ≡ new = ap (planned_file old) is ∙ over_all old new as_long in
-        let good = sidecar_written need old joined true e plan planned holds short may in
-        elim (subst (λ (p : Plan). IsLeft old p now) is left) [
-          | inl same ↦ inl (subst (λ (l : List ℕ). HoldsTree (Some l) e.old) (sym same) holds)
-          | inr (inl same) ↦ inr (inl (subst (λ (l : List ℕ). HoldsTree (Some l) e.new) (file ∙ sym same) good.0))
-          | inr (inr closed) ↦ inr (inr (not_known, closed_refused now (omega (arith, size, short)) closed))
-        ]
-
-    by_old : (q : Piece) → q ≡ record { at = 0; bytes = old } → plan ≡ InPlace (record { at = q.at; bytes = packet_of e (length q.bytes) } ∷ [])
-        → length (packet_of e (length q.bytes)) ≡ length q.bytes → IsWhole e.old e.new (Some now)
-    by_old q same is as_long =
-        by_exchange (subst (λ (p : Piece). plan ≡ InPlace (record { at = p.at; bytes = packet_of e (length p.bytes) } ∷ [])) same is)
-        (subst (λ (p : Piece). length (packet_of e (length p.bytes)) ≡ length p.bytes) same as_long)
-
-    by_plan : (plan ≡ Same) ⊎ IsExchange (Some (record { at = 0; bytes = old })) e plan → IsWhole e.old e.new (Some now)
-    by_plan (inl same) =
-        let is : now ≡ old = subst (λ (p : Plan). IsLeft old p now) same left in
-        inl (subst (λ (l : List ℕ). HoldsTree (Some l) e.old) (sym is) holds)
-    by_plan (inr x) = by_old x.old (let is : Some (record { at = 0; bytes = old }) ≡ Some x.old = x.there in sym cc) x.is x.as_long
+    by_plan : (plan ≡ Same) ⊎ IsExchange kept.payload e plan → IsWhole e.old e.new (Some (put_at old payload.at now))
+    by_plan (inl same) = inl (left_old decided need old kept e plan loaded holds payload there now as_long (subst (λ (p : Plan). IsLeft payload.bytes p now) same left))
+    by_plan (inr x) =
+        exchange_left decided need old kept e plan loaded holds payload there now as_long (file_written need old kept joined true e plan loaded planned holds may).0 x left
 
 -- what `patch` needs to exchange a packet, and what that does
 pub record PutFacts (size : ℕ) (payload : Option Piece) (plan : Plan) (at : ℕ) (old new : List ℕ) : Type 0 where
@@ -224,7 +199,7 @@ put_facts size (Some q) e plan at old new x lies at_is old_is new_is =
 
 pub patch_facts : (kept : Kept) (plan : Plan) (at : ℕ) (old new : List ℕ) → IsPatchPlan kept plan → IsOfSize kept.size kept
     → at ≡ place_of kept.payload → Some old ≡ option_map (λ (piece : Piece). piece.bytes) kept.payload → Some new ≡ new_payload plan → PutFacts kept.size kept.payload plan at old new
-patch_facts kept plan at old new (joined, e, fixed, planned) lies at_is old_is new_is = by_case (patch_plan kept.container kept.payload joined e plan fixed planned)
+patch_facts kept plan at old new (joined, e, fixed, planned) lies at_is old_is new_is = by_case (patch_plan kept joined e plan fixed planned)
   where
     by_case : (plan ≡ Same) ⊎ IsExchange kept.payload e plan → PutFacts kept.size kept.payload plan at old new
     by_case (inl same) = absurd (let bad : Some new ≡ None = new_is ∙ ap new_payload same in cc)

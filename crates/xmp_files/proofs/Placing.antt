@@ -15,9 +15,8 @@ use Rattle.std.proofs.lemmas.Bool.{and_parts}
 use Rattle.xmp_values.specs.declared.stops.FaultStop.{FaultStop}
 use Rattle.xmp_values.specs.declared.stops.FaultStop.TheVariants as faults
 use Rattle.xmp_files.specs.Keeping.{Piece, Container, Text, Segments, IsSegments, Kept}
-use Rattle.jpeg_regions.specs.Jpeg.{Region}
-use Rattle.xmp_files.specs.Planning.{Edited, Plan, Same, InPlace}
-use Rattle.xmp_files.specs.Plans.{packet_of, room_of, put_over, told, padding, least_of, whole_form, unmoved, OrRelocation, IsMoved, IsEdited, IsWrittenIn, IsPlanned, stays, fits, exchanged, digest_pieces}
+use Rattle.xmp_files.specs.Planning.{Edited, Plan, Same, InPlace, Relocated}
+use Rattle.xmp_files.specs.Plans.{packet_of, room_of, put_over, told, padding, least_of, whole_form, unmoved, IsRelocation, OrRelocation, IsMoved, IsPlanned, stays, fits, exchanged, digest_pieces}
 use Rattle.xmp_files.specs.Planneds.{MoveAnswer, PlanAnswer}
 
 -- a packet that fits is put over the payload
@@ -30,37 +29,19 @@ placed None container joined least e h =
     let no : false ≡ true = parts.1 in
     absurd cc
 
-segments_text : (regions : List Region) → Segments regions ≡ Text → ⊥
-segments_text regions e = cc e
-
--- a text is written
-written_text : (c : Container) (payload : Option Piece) (joined patch : Bool) (e : Edited) (step : Result Plan Fault) → c ≡ Text → IsEdited payload Text joined patch e step
-    → IsWrittenIn c payload joined patch e step
-written_text Text payload joined patch e step is h = h
-written_text (Segments regions) payload joined patch e step is h = absurd (segments_text regions is)
-
--- a JPEG file isn't
-pub unwritten : (c : Container) (payload : Option Piece) (joined patch : Bool) (e : Edited) (fault : Fault) → IsSegments c → fault ≡ not_built
-    → IsWrittenIn c payload joined patch e (Err fault)
-unwritten Text payload joined patch e fault segments is = absurd segments
-unwritten (Segments regions) payload joined patch e fault segments is = ap (λ (f : Fault). let r : Result Plan Fault = Err f in r) is
-
 -- a tree that stays
-pub same_planned : (kept : Kept) (joined patch : Bool) (e : Edited) → kept.container ≡ Text → e.new ≡ e.old → e.digest ≡ None → IsPlanned kept joined patch e (Ok Same)
-same_planned kept joined patch e text same none =
-    written_text kept.container kept.payload joined patch e (Ok Same) text
-    (inl (same, ap (λ (d : Option (List ℕ)). let r : Result Plan Fault = Ok (stays Text d) in r) (sym none)))
+pub same_planned : (kept : Kept) (joined patch : Bool) (e : Edited) → e.new ≡ e.old → e.digest ≡ None → IsPlanned kept joined patch e (Ok Same)
+same_planned kept joined patch e same none = inl (same, ap (λ (d : Option (List ℕ)). let r : Result Plan Fault = Ok (stays kept.container d) in r) (sym none))
 
 -- a tree that changes
-pub changed_planned : (kept : Kept) (joined patch : Bool) (e : Edited) (plan : Plan) → kept.container ≡ Text → e.new ≢ e.old
-    → IsMoved kept.payload Text joined patch e (Ok plan) → IsPlanned kept joined patch e (Ok plan)
-changed_planned kept joined patch e plan text differs h = written_text kept.container kept.payload joined patch e (Ok plan) text (inr (differs, h))
+pub changed_planned : (kept : Kept) (joined patch : Bool) (e : Edited) (plan : Plan) → e.new ≢ e.old → IsMoved kept.payload kept.container joined patch e (Ok plan) → IsPlanned kept joined patch e (Ok plan)
+changed_planned kept joined patch e plan differs h = inr (differs, h)
 
 -- the fault of a changed tree is that of the plan
-pub stops_planned : (kept : Kept) (joined patch : Bool) (e : Edited) (stop : FaultStop) → kept.container ≡ Text → e.new ≢ e.old → MoveAnswer kept.payload joined patch e (Err stop)
+pub stops_planned : (kept : Kept) (joined patch : Bool) (e : Edited) (stop : FaultStop) → e.new ≢ e.old → MoveAnswer kept.payload kept.container joined patch e (Err stop)
     → PlanAnswer kept joined patch e (Err stop)
-stops_planned kept joined patch e (faults.Fault fault) text differs h = written_text kept.container kept.payload joined patch e (Err fault) text (inr (differs, h))
-stops_planned kept joined patch e faults.Memory text differs h = tt
+stops_planned kept joined patch e (faults.Fault fault) differs h = inr (differs, h)
+stops_planned kept joined patch e faults.Memory differs h = tt
 
 abbrev ok_plan : Plan → Result Plan Fault
 ok_plan p = Ok p
@@ -91,3 +72,49 @@ inside_moved payload container joined patch e ps form least padded plan ps_is fo
     let bytes : packet ps e.new form (room_of payload) ≡ packet_of e (room_of payload) = rw (ps_is, form_is) refl in
     let numbers = least_small (least_of e) least padded (least_is ∙ ap told lens) padded_is small in
     moved_inside payload container joined patch e least plan numbers.0 numbers.1 fit (is ∙ ap (put_over payload) bytes)
+
+-- A packet that doesn't fit, where a file may be written anew.
+not_fitting : (payload : Option Piece) (container : Container) (joined : Bool) (e : Edited) (least : ℕ) (step : Result Plan Fault) → least ≡ least_of e
+    → least_of e + 2048 ≤ 16777216 → fits payload joined least ≡ false → IsRelocation container e step → IsMoved payload container joined false e step
+not_fitting payload container joined e least step same short fit h =
+    let test : nat_lt packet_limit (least_of e + padding) ≡ false = le-ltb packet_limit (least_of e + padding) short in
+    let fit_2 : fits payload joined (least_of e) ≡ false = ap (fits payload joined) (sym same) ∙ fit in
+    let first : unmoved payload container joined false e ≡ None = rw (test, fit_2) refl in
+    subst (λ (known : Option (Result Plan Fault)). OrRelocation known container e step) (sym first) h
+
+anew_relocation : (container : Container) (e : Edited) (padded : ℕ) (bytes : List ℕ) → container ≡ Text → padded ≡ least_of e + padding → bytes ≡ packet_of e padded
+    → IsRelocation container e (Ok (Relocated bytes))
+anew_relocation Text e padded bytes text padded_is is = ap (λ (l : List ℕ). ok_plan (Relocated l)) (is ∙ ap (packet_of e) padded_is)
+anew_relocation (Segments regions) e padded bytes text padded_is is = absurd (cc text)
+
+unbuilt_relocation : (container : Container) (e : Edited) (fault : Fault) → IsSegments container → fault ≡ not_built → IsRelocation container e (Err fault)
+unbuilt_relocation Text e fault segments is = absurd segments
+unbuilt_relocation (Segments regions) e fault segments is = ap (λ (f : Fault). let r : Result Plan Fault = Err f in r) is
+
+-- the padded length that is told is the padded length
+padded_small : (n least padded : ℕ) → least ≡ n → n + 2048 ≤ 16777216 → padded ≡ min (least + 2048) 18446744073709551615 → padded ≡ n + 2048
+padded_small n least padded a b c = grind (arith, min-le_left, min-eq_left)
+
+module _ (payload : Option Piece) (container : Container) (joined patch : Bool) (e : Edited) (ps : List Hint) (form : Form) (least padded : ℕ)
+    (ps_is : ps ≡ prefixes e.new e.hints form) (form_is : form ≡ whole_form e.new) (least_is : least ≡ told (least_len ps e.new form))
+    (padded_is : padded ≡ min (least + 2048) 18446744073709551615) (small : padded ≤ 16777216) (fit : fits payload joined least ≡ false) (anew : patch ≡ false) where
+  lens : least_len ps e.new form ≡ least_of e
+  lens = rw (ps_is, form_is) refl
+
+  numbers : (least ≡ least_of e) × (least_of e + 2048 ≤ 16777216)
+  numbers = least_small (least_of e) least padded (least_is ∙ ap told lens) padded_is small
+
+  -- a sidecar is written anew
+  pub anew_moved : (plan : Plan) (bytes : List ℕ) → container ≡ Text → plan ≡ Relocated bytes → bytes ≡ packet ps e.new form padded → IsMoved payload container joined patch e (Ok plan)
+  anew_moved plan bytes text plan_is is =
+      let same : packet ps e.new form padded ≡ packet_of e padded = rw (ps_is, form_is) refl in
+      subst (λ (b : Bool). IsMoved payload container joined b e (Ok plan)) (sym anew)
+      (subst (λ (p : Plan). IsMoved payload container joined false e (Ok p)) (sym plan_is)
+      (not_fitting payload container joined e least (Ok (Relocated bytes)) numbers.0 numbers.1 fit
+      (anew_relocation container e padded bytes text (padded_small (least_of e) least padded numbers.0 numbers.1 padded_is) (is ∙ same))))
+
+  -- a JPEG file isn't relocated yet
+  pub unbuilt_moved : (fault : Fault) → IsSegments container → fault ≡ not_built → IsMoved payload container joined patch e (Err fault)
+  unbuilt_moved fault segments is =
+      subst (λ (b : Bool). IsMoved payload container joined b e (Err fault)) (sym anew)
+      (not_fitting payload container joined e least (Err fault) numbers.0 numbers.1 fit (unbuilt_relocation container e fault segments is))

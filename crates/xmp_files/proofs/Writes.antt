@@ -1,66 +1,93 @@
--- Whatever the plan, the new sidecar holds the new tree.
-use Rattle.std.proofs.Common.{◌≡◌, ◌⊎◌, ℕ, ◌+◌, ◌<◌, ◌≤◌, true, false, List, [], ◌∷◌, length, Some, None, Ok, refl, inl, inr, arith, sym, subst, ◌∙◌}
-use Rattle.std.specs.Prelude.{nat_lt, slice_get}
+-- Whatever the plan, the new file holds the new tree.
+use Rattle.std.proofs.Common.{◌≡◌, ◌⊎◌, ℕ, ◌+◌, ◌<◌, ◌≤◌, List, [], ◌∷◌, length, Some, None, Ok, refl, inl, inr, arith, sym, ap, subst, ◌∙◌}
+use Rattle.std.specs.Prelude.{◌≢◌}
 use Rattle.std.specs.declared.option.Option.{Option}
-use Rattle.std.proofs.lemmas.Bool.{ltb-false}
-use Rattle.std.proofs.lemmas.Option.{slice_get_past}
-use Rattle.std.proofs.lemmas.List.Elements.{All-head}
+use Rattle.xmp_base.specs.Device.{put_at}
+use Rattle.xmp_packets.specs.Packets.{is_writable}
 use Rattle.xmp_write.specs.Prefixes.{prefixes}
-use Rattle.round_trip.specs.Law.{MayWrite}
+use Rattle.round_trip.specs.Law.{MayWrite, text_hints}
+use Rattle.round_trip.proofs.Meanings.{packet_reads_back}
+use Rattle.packet_exchange.specs.Closing.{is_open}
 use Rattle.xmp_files.specs.declared.held.Need.{Need}
-use Rattle.xmp_files.specs.Faults.{packet_limit, over_packet}
-use Rattle.xmp_files.specs.Keeping.{Piece, Text, sidecar}
+use Rattle.xmp_files.specs.Faults.{packet_limit}
+use Rattle.xmp_files.specs.Keeping.{Piece, Container, Text, Segments, Kept, sidecar}
+use Rattle.xmp_files.specs.Loading.{IsLoaded}
 use Rattle.xmp_files.specs.Opening.{HoldsTree}
-use Rattle.xmp_files.specs.Planning.{Edited, Plan, InPlace, Relocated, Agree, Frame, planned_file}
-use Rattle.xmp_files.specs.Plans.{packet_of, least_of, padding, stays, fits, whole_form, told, needs_relocation}
-use Rattle.xmp_files.specs.Written.{SidecarIsWritten}
-use Rattle.xmp_files.proofs.PacketLengths.{length-packet, moved_cases, fit_length, over_all}
+use Rattle.xmp_files.specs.Planning.{Edited, Plan, Same, InPlace, Relocated, Agree, Frame, KeepsPictures, planned_file}
+use Rattle.xmp_files.specs.Plans.{IsPlanned, packet_of, least_of, padding, whole_form}
+use Rattle.xmp_files.specs.Written.{FileIsWritten}
+use Rattle.xmp_files.proofs.Agreeing.{put_agrees}
+use Rattle.xmp_files.proofs.ExchangedPackets.{Stands, loaded_stands, same_piece, whole_piece}
+use Rattle.xmp_files.proofs.LoadedKept.{IsSidecarOf, IsPhotographOf, LoadedAs, loaded_as, loaded_small}
+use Rattle.xmp_files.proofs.OpenPackets.{writable_some}
+use Rattle.xmp_files.proofs.PacketLengths.{length-packet, over_all}
+use Rattle.xmp_files.proofs.PlanCases.{IsExchange, IsAnew, Becomes, planned_cases}
+use Rattle.xmp_files.proofs.WrittenPhotographs.{photograph_holds}
 use Rattle.xmp_files.proofs.WrittenSidecars.{sidecar_reads_back}
 
 -- what a new file is
-abbrev Good : Need → List ℕ → Edited → Plan → Type 0
-Good need old e plan = HoldsTree (Some (planned_file old plan)) e.new × Frame (sidecar need old) plan old (planned_file old plan)
+abbrev Good : Kept → List ℕ → Edited → Plan → Type 0
+Good kept old e plan = HoldsTree (Some (planned_file old plan)) e.new × Frame kept plan old (planned_file old plan)
 
 same_bytes : (old : List ℕ) (pieces : List Piece) → Agree old old pieces
 same_bytes old pieces = record { size = refl; outside = λ place out. refl }
 
-stays_good : (need : Need) (old : List ℕ) (e : Edited) (digest : Option (List ℕ)) (plan : Plan) → plan ≡ stays Text digest → HoldsTree (Some old) e.new → Good need old e plan
-stays_good need old e None plan is holds = subst (Good need old e) (sym is) (holds, refl)
-stays_good need old e (Some digest) plan is holds = subst (Good need old e) (sym is) (holds, same_bytes old [])
+stays_good : (kept : Kept) (old : List ℕ) (e : Edited) (plan : Plan) → (plan ≡ Same) ⊎ (plan ≡ InPlace []) → HoldsTree (Some old) e.new → Good kept old e plan
+stays_good kept old e plan (inl is) holds = subst (Good kept old e) (sym is) (holds, refl)
+stays_good kept old e plan (inr is) holds = subst (Good kept old e) (sym is) (holds, same_bytes old [])
 
--- the place of a piece over the whole file has nothing outside
-outside_all : (old new : List ℕ) (place : ℕ) → length new ≡ length old → ((place < 0) ⊎ (0 + length new ≤ place)) → slice_get new place ≡ slice_get old place
-outside_all old new place same (inl below) = absurd (omega arith)
-outside_all old new place same (inr past) = slice_get_past new place (omega arith) ∙ sym (slice_get_past old place (omega arith))
+-- a packet with padding is a whole new sidecar
+anew_frame : (container : Container) (old new : List ℕ) → container ≡ Text → KeepsPictures container old new
+anew_frame Text old new is = tt
+anew_frame (Segments regions) old new is = absurd (cc is)
 
-over_agrees : (old new : List ℕ) → length new ≡ length old → Agree old new (record { at = 0; bytes = new } ∷ [])
-over_agrees old new same = record { size = same; outside = λ place out. outside_all old new place same (All-head (λ (p : Piece). (place < p.at) ⊎ (p.at + length p.bytes ≤ place)) (record { at = 0; bytes = new }) [] out) }
-
--- a packet over the whole file
-over_good : (need : Need) (old : List ℕ) (e : Edited) → MayWrite e.new e.hints (whole_form e.new) → length (packet_of e (length old)) ≡ length old → length old ≤ packet_limit
-    → Good need old e (InPlace (record { at = 0; bytes = packet_of e (length old) } ∷ []))
-over_good need old e may same short =
-    let piece : Piece = record { at = 0; bytes = packet_of e (length old) } in
-    let is = over_all old (packet_of e (length old)) same in (
-      subst (λ (file : List ℕ). HoldsTree (Some file) e.new) (sym is) (sidecar_reads_back e.new e.hints (length old) may (omega (arith, same, short))),
-      subst (λ (file : List ℕ). Agree old file (piece ∷ [])) (sym is) (over_agrees old (packet_of e (length old)) same),
-    )
-
--- a packet with padding is a whole new file
-relocated_good : (need : Need) (old : List ℕ) (e : Edited) → MayWrite e.new e.hints (whole_form e.new) → nat_lt packet_limit (least_of e + padding) ≡ false
-    → Good need old e (Relocated (packet_of e (least_of e + padding)))
-relocated_good need old e may within =
+anew_good : (kept : Kept) (old : List ℕ) (e : Edited) (plan : Plan) → MayWrite e.new e.hints (whole_form e.new) → IsAnew kept.container e plan → Good kept old e plan
+anew_good kept old e plan may x =
     let size = length-packet (prefixes e.new e.hints (whole_form e.new)) e.new (whole_form e.new) (least_of e + padding) (omega arith) in
-    (sidecar_reads_back e.new e.hints (least_of e + padding) may (omega (arith, size, ltb-false packet_limit (least_of e + padding) within)), tt)
+    subst (Good kept old e) (sym x.is)
+    (sidecar_reads_back e.new e.hints (least_of e + padding) may (omega (arith, size, x.within)), anew_frame kept.container old (packet_of e (least_of e + padding)) x.text)
 
-pub sidecar_written : SidecarIsWritten
-sidecar_written need old joined patch e plan (inl h) holds short may =
-    stays_good need old e e.digest plan (let is : Ok plan ≡ Ok (stays Text e.digest) = h.1 in cc) (subst (HoldsTree (Some old)) (sym h.0) holds)
-sidecar_written need old joined patch e plan (inr h) holds short may =
-    by_case (moved_cases (nat_lt packet_limit (least_of e + padding)) (fits (Some (record { at = 0; bytes = old })) joined (least_of e)) patch (over_packet (told (least_of e + padding)))
-    (needs_relocation (told (least_of e)) (length old)) (InPlace (record { at = 0; bytes = packet_of e (length old) } ∷ [])) e plan h.1)
+-- The packet is exchanged.
+module _ (need : Need) (old : List ℕ) (kept : Kept) (e : Edited) (plan : Plan) (loaded : IsLoaded need (Some old) (Ok kept)) (may : MayWrite e.new e.hints (whole_form e.new))
+    (x : IsExchange kept.payload e plan) where
+  abbrev payload : Piece
+  payload = x.old
+
+  abbrev new : List ℕ
+  new = packet_of e (length payload.bytes)
+
+  stands : Stands old payload
+  stands = loaded_stands need old kept payload loaded x.there
+
+  some : 0 < length new
+  some = let full = writable_some payload.bytes x.writable in omega (arith, x.as_long, full)
+
+  short : length new ≤ packet_limit
+  short = omega (arith, stands.short, x.as_long)
+
+  -- of a sidecar it is the whole file
+  sidecar_holds : IsSidecarOf need old kept → HoldsTree (Some (put_at old payload.at new)) e.new
+  sidecar_holds s =
+      let is : whole_piece old ≡ payload = same_piece (whole_piece old) payload (sym (ap (λ (k : Kept). k.payload) s.is) ∙ x.there) in
+      let whole : put_at old payload.at new ≡ new = subst (λ (q : Piece). length new ≡ length q.bytes → put_at old q.at new ≡ new) is (λ same. over_all old new same) x.as_long in
+      subst (λ (file : List ℕ). HoldsTree (Some file) e.new) (sym whole) (sidecar_reads_back e.new e.hints (length payload.bytes) may short)
+
+  holds_by : LoadedAs need old kept → HoldsTree (Some (put_at old payload.at new)) e.new
+  holds_by (inl s) = sidecar_holds s
+  holds_by (inr p) =
+      photograph_holds need old kept p.is payload x.there new x.as_long some (loaded_small need old kept loaded) short
+      (text_hints e.new e.hints (whole_form e.new)) e.new (packet_reads_back e.new e.hints (length payload.bytes) may)
+
+  exchange_good : Good kept old e plan
+  exchange_good =
+      let agrees : Agree old (put_at old payload.at new) (record { at = payload.at; bytes = new } ∷ []) =
+      put_agrees old payload.at new (omega (arith, stands.within, x.as_long)) (record { at = payload.at; bytes = new }) refl refl in
+      subst (Good kept old e) (sym x.is) (holds_by (loaded_as need old kept loaded), agrees)
+
+pub file_written : FileIsWritten
+file_written need old kept joined patch e plan loaded planned holds may = by_case (planned_cases kept joined patch e plan planned)
   where
-    by_case : ((nat_lt packet_limit (least_of e + padding) ≡ false) × (fits (Some (record { at = 0; bytes = old })) joined (least_of e) ≡ true) × (plan ≡ InPlace (record { at = 0; bytes = packet_of e (length old) } ∷ [])))
-        ⊎ ((nat_lt packet_limit (least_of e + padding) ≡ false) × (plan ≡ Relocated (packet_of e (least_of e + padding)))) → Good need old e plan
-    by_case (inl c) = subst (Good need old e) (sym c.2) (over_good need old e (may h.0) (fit_length old joined e c.1) short)
-    by_case (inr c) = subst (Good need old e) (sym c.1) (relocated_good need old e (may h.0) c.0)
+    by_case : Becomes kept.payload kept.container e plan → HoldsTree (Some (planned_file old plan)) e.new × Frame kept plan old (planned_file old plan)
+    by_case (inl h) = stays_good kept old e plan h.1 (subst (HoldsTree (Some old)) (sym h.0) holds)
+    by_case (inr (differs, inl x)) = exchange_good need old kept e plan loaded (may differs) x
+    by_case (inr (differs, inr x)) = anew_good kept old e plan (may differs) x

@@ -29,7 +29,7 @@ use Rattle.xmp_files.specs.Meanings.{Means, Opens}
 use Rattle.xmp_files.specs.Opening.{IsOpened, HoldsTree}
 
 -- what the text means, as reading gives it
-abbrev meant : (text : List ℕ) (declared : List Hint) (t : Parts) (note : Option (List ℕ)) → TextMeans text declared t note → Meaning
+abbrev pub meant : (text : List ℕ) (declared : List Hint) (t : Parts) (note : Option (List ℕ)) → TextMeans text declared t note → Meaning
 meant text declared t note h = meaning_of 100 h.root declared
 
 pub means : (text : List ℕ) (declared : List Hint) (t : Parts) (note : Option (List ℕ)) (h : TextMeans text declared t note) → Means text (Ok (meant text declared t note h))

@@ -1,5 +1,5 @@
 -- What writing the new file does to a desk.
-use Rattle.std.specs.Prelude.{◌≡◌, ◌⊎◌, ℕ, Bool, List, length, MatchResult, Option, Some, Ok, Err}
+use Rattle.std.specs.Prelude.{◌≡◌, ◌⊎◌, ℕ, ◌+◌, ◌-◌, Bool, List, ◌++◌, length, take, drop, MatchResult, Option, Some, Ok, Err}
 use Rattle.std.specs.declared.result.Result.{Result}
 use Rattle.std.specs.FinMap.{get}
 use Rattle.xmp_base.specs.Device.{DeskState, Files, Told, Rose, NotFewer, OthersKeep, bytes_of}
@@ -27,6 +27,15 @@ EmittedFile (Err _) s t now whole = (t.wrote ≡ s.wrote) ⊎ ((part : List ℕ)
 pub record PiecesCall (s t : DeskState) (name bytes : List ℕ) (result : Result (Unit {0}) Failed) : Type 0 where
   pub reads : t.reads ≡ s.reads
   pub grows : Grows s t name (λ _. bytes) (length bytes) most_piece result
+
+-- a file with the bytes from one place up to another exchanged, where it has so many bytes
+abbrev pub spliced : List ℕ → ℕ → List ℕ → ℕ → ℕ → List ℕ
+spliced file at bytes rest size = take at file ++ bytes ++ take (size - rest) (drop rest file)
+
+-- a file with some of its bytes exchanged was put at the end of another
+pub record SplicedCall (s t : DeskState) (from to : List ℕ) (at : ℕ) (bytes : List ℕ) (rest size : ℕ) (result : Result (Unit {0}) Failed) : Type 0 where
+  pub reads : ReadsOf from s.reads t.reads
+  pub grows : Grows s t to (λ files. spliced (bytes_of files from) at bytes rest size) (at + length bytes + (size - rest)) most_piece result
 
 -- The clauses of `emit`, from the desk's state s to t, of a plan for a file of this length.
 pub record EmitCall (s t : DeskState) (plan : Plan) (size : ℕ) (from to : List ℕ) (result : Result (Unit {0}) Failed) : Type 0 where

@@ -7,7 +7,7 @@ use Rattle.xmp_files.specs.declared.plans.Exchange.{Exchange}
 use Rattle.xmp_files.specs.declared.plans.Exchange.TheVariants.{Nothing, Inside, Whole}
 use Rattle.xmp_files.specs.declared.plans.Outcome.{Outcome}
 use Rattle.xmp_files.specs.declared.plans.Outcome.TheVariants as outcomes
-use Rattle.xmp_files.specs.Keeping.{Piece, Text, Kept}
+use Rattle.xmp_files.specs.Keeping.{Piece, Container, Kept}
 use Rattle.xmp_files.specs.Planning.{Edited, Plan, Same, InPlace, Relocated}
 use Rattle.xmp_files.specs.Plans.{IsPlanned, IsMoved}
 
@@ -31,10 +31,10 @@ abbrev pub PlanAnswer : Kept → Bool → Bool → Edited → Result PlannedFile
 PlanAnswer kept joined patch e result =
     Answers fault_of result (λ planned. IsPlanned kept joined patch e (Ok planned.plan) × (planned.size ≡ kept.size)) (λ fault. IsPlanned kept joined patch e (Err fault))
 
--- what a changed tree makes of the bytes of a text is a step
-abbrev pub MoveAnswer : Option Piece → Bool → Bool → Edited → Result Exchange FaultStop → Type 0
-MoveAnswer payload joined patch e result =
-    Answers fault_of result (λ exchange. IsMoved payload Text joined patch e (Ok (plan_of exchange))) (λ fault. IsMoved payload Text joined patch e (Err fault))
+-- what a changed tree makes of a file is a step
+abbrev pub MoveAnswer : Option Piece → Container → Bool → Bool → Edited → Result Exchange FaultStop → Type 0
+MoveAnswer payload container joined patch e result =
+    Answers fault_of result (λ exchange. IsMoved payload container joined patch e (Ok (plan_of exchange))) (λ fault. IsMoved payload container joined patch e (Err fault))
 
 -- the bytes of a payload, none without one
 abbrev pub bytes_in : Option Piece → List ℕ

@@ -76,7 +76,8 @@ unmoved payload container joined patch e =
     else (if fits payload joined (least_of e) then Some (Ok (InPlace (exchanged payload e ++ digest_pieces container e.digest)))
     else (if patch then Some (Err (needs_relocation (told (least_of e)) (room_of payload))) else None))
 
--- The file that has the new packet in another place, or the first fault. A sidecar is nothing but its packet.
+-- The file that has the new packet in another place, or the first fault. A sidecar is nothing but its packet, and no JPEG file is relocated
+-- yet.
 abbrev pub IsRelocation : Container → Edited → Result Plan Fault → Type 0
 IsRelocation Text e step = step ≡ Ok (Relocated (packet_of e (least_of e + padding)))
 IsRelocation (Segments regions) e step = step ≡ Err not_built
@@ -94,20 +95,15 @@ abbrev pub stays : Container → Option (List ℕ) → Plan
 stays container None = Same
 stays container (Some digest) = InPlace (digest_pieces container (Some digest))
 
--- what becomes of the file, where its container is written
+-- what becomes of a file, by its payload and how it is made up
 abbrev pub IsEdited : Option Piece → Container → Bool → Bool → Edited → Result Plan Fault → Type 0
 IsEdited payload container joined patch e step =
     ((e.new ≡ e.old) × (step ≡ Ok (stays container e.digest)))
     ⊎ ((e.new ≢ e.old) × IsMoved payload container joined patch e step)
 
--- JPEG files aren't written yet
-abbrev pub IsWrittenIn : Container → Option Piece → Bool → Bool → Edited → Result Plan Fault → Type 0
-IsWrittenIn Text payload joined patch e step = IsEdited payload Text joined patch e step
-IsWrittenIn (Segments regions) payload joined patch e step = step ≡ Err not_built
-
 -- what becomes of the file; `joined` says that an extended text was read, and `patch` that the file may not be written anew
 abbrev pub IsPlanned : Kept → Bool → Bool → Edited → Result Plan Fault → Type 0
-IsPlanned kept joined patch e step = IsWrittenIn kept.container kept.payload joined patch e step
+IsPlanned kept joined patch e step = IsEdited kept.payload kept.container joined patch e step
 
 -- the length of the new file
 abbrev pub planned_len : ℕ → Plan → ℕ

@@ -7,8 +7,10 @@ ghost use Rattle.xmp_files.specs.declared.opening.Opened.{Opened};
 ghost use Rattle.xmp_files.specs.Keeping.{Kept};
 ghost use Rattle.xmp_files.specs.Loading.{IsLoaded};
 ghost use Rattle.xmp_files.specs.Opening.{IsOpened, Holds};
-ghost use Rattle.xmp_files.specs.Written.{SidecarIsWritten};
-ghost use Rattle.xmp_files.specs.Patching.{SidecarIsPatched};
+ghost use Rattle.xmp_files.specs.Written.{FileIsWritten};
+ghost use Rattle.xmp_files.specs.Patching.{FileIsPatched};
+
+use xmp_xml::document_or_fault;
 
 /// What is kept of a file is one thing, or its first fault is one.
 pub fn one_kept()
@@ -25,12 +27,14 @@ pub fn one_meaning()
     ensures { (file : Option (List ℕ)) (a b : Result Opened Fault) → Holds file a → Holds file b → a ≡ b }
 {}
 
-/// A sidecar that is written by a plan is read as the new tree, and keeps what the plan says.
-pub fn sidecar_is_written()
-    ensures { SidecarIsWritten }
+/// A file that is written by a plan is read as the new tree, and keeps what the plan says.
+pub fn file_is_written()
+    ensures { FileIsWritten }
 {}
 
-/// A sidecar that is patched is read as the old tree, as the new one, or it is refused.
-pub fn sidecar_is_patched()
-    ensures { SidecarIsPatched }
-{}
+/// A file that is patched is read as the old tree, as the new one, or it is refused.
+pub fn file_is_patched()
+    ensures { FileIsPatched }
+{
+    document_or_fault();
+}

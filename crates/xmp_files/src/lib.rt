@@ -25,7 +25,7 @@ pub use emitting::emit;
 pub use faults::{no_file, not_built};
 pub use held::{Held, Need};
 pub use kinds::{Kind, kind_of};
-pub use laws::{one_kept, one_meaning, one_opened, sidecar_is_patched, sidecar_is_written};
+pub use laws::{file_is_patched, file_is_written, one_kept, one_meaning, one_opened};
 pub use loading::load;
 pub use opening::{Opened, read_file};
 pub use patching::patch;

@@ -2,9 +2,10 @@
 ghost use Rattle.std.specs.Prelude.{◌≡◌, Some};
 ghost use Rattle.std.specs.FinMap.{get};
 ghost use Rattle.xmp_files.specs.Loads.{IsOfSize};
-ghost use Rattle.xmp_files.specs.Patching.{IsPatchPlan, PatchCall};
+ghost use Rattle.xmp_files.specs.Patching.{FileIsPatched, IsPatchPlan, PatchCall};
 
 use crate::held::Held;
+use crate::laws::file_is_patched;
 use crate::plans::Planned;
 use packet_exchange::exchange_packet;
 use xmp_base::{Desk, Failed};
@@ -24,10 +25,13 @@ pub fn patch<'p, D: Desk>(
     requires known { get (D.state desk.old).lens name.now ≡ Some held.now.size }
     requires lies { IsOfSize held.now.size held.now }
     requires planned { IsPatchPlan held.now plan.now.plan }
+    // what is left in the place of the payload, however this ends, is read as the old tree, as the new one, or is refused
+    ensures whole { FileIsPatched }
     ensures call { PatchCall (D.state desk.old) (D.state desk.new) name.now held.now.payload plan.now.plan result }
 {
     // The payload ends within the file, whose length is a number of 64 bits.
     let _ = held.size();
+    file_is_patched();
     let at = held.payload_place();
     match (held.payload(), plan.new_payload()) {
         (Some(old), Some(new)) => exchange_packet(desk, name, at, old, new),

@@ -95,7 +95,7 @@ impl Planned {
         }
     }
 
-    /// The new packet, which is the new file of a sidecar.
+    /// The packet of the new file: the new one, or the old one where it stays.
     pub(crate) fn bytes<'a>(&'a self, held: &'a Held) -> &'a [u8]
         ensures bytes { result.now ≡ new_packet held.now.payload self.now.plan }
         ensures sidecar { held.now.container ≡ Text → held.now ≡ sidecar held.now.need (bytes_in held.now.payload) }
@@ -186,7 +186,7 @@ fn count_of(hints: &[Hint], prefixes: &[Hint]) -> usize
 }
 
 /// What becomes of a file whose tree changes: the new packet stands in the place of the old one where it fits,
-/// else the file is written anew.
+/// else a sidecar is written anew. No JPEG file is relocated yet.
 #[tactic(auto, using(crate::proofs::Placing::placed))]
 fn change_of(
     alloc: Global,
@@ -196,7 +196,7 @@ fn change_of(
     hints: &Hints,
     patch: bool,
 ) -> Result<Exchange, FaultStop>
-    ensures step { (old : Parts) → MoveAnswer held.now.payload joined patch (record { old = old; new = tree.now; hints = hints.now; digest = None }) result }
+    ensures step { (old : Parts) → MoveAnswer held.now.payload held.now.container joined patch (record { old = old; new = tree.now; hints = hints.now; digest = None }) result }
     // the text that was written is one that is read back
     ensures written { IfOk result (λ _. MayWrite tree.now hints.now (whole_form tree.now)) }
 {
@@ -215,11 +215,14 @@ fn change_of(
     if patch {
         return Err(FaultStop::Fault(needs_relocation(least, held.payload_len())));
     }
-    Ok(Exchange::Whole(packet(alloc, tree, &prefixes, &form, padded as usize)?))
+    if held.is_sidecar() {
+        return Ok(Exchange::Whole(packet(alloc, tree, &prefixes, &form, padded as usize)?));
+    }
+    Err(FaultStop::Fault(not_built()))
 }
 
 /// What becomes of a file whose tree is to be `tree`, with all hints of its text. With `patch` the file may be
-/// changed inside its packet alone.
+/// changed inside its packet alone. JPEG files aren't relocated yet.
 ///
 /// # Errors
 /// The first fault of the steps after the edits: XmpLimit of the new text, then NeedsRelocation with `patch`.
@@ -236,9 +239,6 @@ pub fn plan(
     // the text of a tree that changes is one that is read back
     ensures written { IfOk result (λ _. tree.now ≢ opened.now.meaning.tree → MayWrite tree.now hints.now (whole_form tree.now)) }
 {
-    if !held.is_sidecar() {
-        return Err(FaultStop::Fault(not_built()));
-    }
     let old_len = held.size();
     if equal(tree, &opened.meaning.tree) {
         return Ok(Planned {

@@ -12,6 +12,8 @@ mod commands;
 #[cfg(test)]
 mod devices;
 #[cfg(test)]
+mod edited_photographs;
+#[cfg(test)]
 mod editing;
 #[cfg(test)]
 mod extended;

@@ -18,17 +18,22 @@ const SET_TIFF: &str = "set dc:format image/tiff";
 
 /// How a run of `patch` over `a.xmp` ended, and what it left.
 #[derive(Drop)]
-struct Patched {
+pub struct Patched {
     ran: Ran,
     desk: MemoryDesk,
 }
 
 impl Patched {
-    fn file(&self) -> &[u8] {
+    /// Whether it ended with the status that this line tells, and sent this text and this line.
+    pub fn ended(&self, text: &str, line: &str) -> bool {
+        self.ran.ended(text, line)
+    }
+
+    pub fn file(&self) -> &[u8] {
         self.desk.bytes_of("a.xmp").unwrap_or(b"")
     }
 
-    fn wrote_none(&self) -> bool {
+    pub fn wrote_none(&self) -> bool {
         self.desk.wrote_at(0).is_none()
     }
 
@@ -71,7 +76,7 @@ fn is_closed(old: &[u8], new: &[u8], now: &[u8]) -> bool {
 }
 
 /// Patches `a.xmp` of these bytes on a desk that moves one byte a call, and whose call of this number fails.
-fn patch(alloc: Global, file: &[u8], script: &str, fails: u64) -> Result<Patched, Memory> {
+pub fn patch(alloc: Global, file: &[u8], script: &str, fails: u64) -> Result<Patched, Memory> {
     let words = words_of(alloc, &["patch", "a.xmp", "script"])?;
     let mut desk = MemoryDesk::new(alloc);
     desk.add("a.xmp", file)?;

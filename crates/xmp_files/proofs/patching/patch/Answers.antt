@@ -30,6 +30,7 @@ exchange_packet-requires-clause-new_opens g c =
 
 pub returns-in-Some-Some : goal.returns-in-Some-Some
 returns-in-Some-Some g c = record {
+  whole = c.file_is_patched.ensures;
   call = (patch_facts c.args.held.now c.args.plan.now.plan _ _ _ c.requires.planned c.requires.lies c.payload_place-at.ensures c.in-Some-Some.ensures c.in-Some-Some.ensures').call
       _ _ c.args.name.now c.exchange_packet.result c.exchange_packet.ensures.call;
 }
