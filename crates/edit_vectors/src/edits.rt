@@ -10,7 +10,8 @@ fn made(alloc: Global, script: &str) -> Result<Tree<'static>, PlaceStop> {
     let hints = Hints::new(alloc);
     let first = Script::read(alloc, b"set dc:format image/jpeg", &hints)?;
     let script = Script::read(alloc, script.as_bytes(), &hints)?;
-    apply(apply(empty(alloc), &first)?, &script)
+    let tree: Tree<'static> = apply(empty(alloc), &first)?;
+    apply(tree, &script)
 }
 
 fn kind_name(kind: Kind) -> &'static str {
