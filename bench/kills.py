@@ -1,10 +1,10 @@
 #!/usr/bin/env python3
 """Kills `xmp patch` at random moments, and looks at what it leaves of the file.
 
-    bench/kills.py PROGRAM [--runs 1000] [--properties 20000] [--seed 1]
+    bench/kills.py PROGRAM [--runs 1000] [--properties 20000] [--seed 1] [--photograph]
 
 PROGRAM is a built `xmp` (crates/xmp/out/xmp after `rt run`). Each run patches a sidecar with a
-packet that has room for the edit, and is killed after a random part of the time that a whole run
+packet that has room for the edit, or with --photograph a JPEG file of 50 MB with such a packet, and is killed after a random part of the time that a whole run
 takes. Of each file that is left there are four kinds: the old bytes, the new ones, a closed packet
 (a space, then the new bytes up to some place and the old ones after it) which `xmp tree` refuses,
 and anything else, which is an error. Nothing of this is in the gate.
@@ -23,6 +23,7 @@ import time
 HEADER = '<?xpacket begin="\ufeff" id="W5M0MpCehiHzreSzNTczkc9d"?>\n'
 TRAILER = '<?xpacket end="w"?>'
 RDF = "http://www.w3.org/1999/02/22-rdf-syntax-ns#"
+SIGNATURE = b"http://ns.adobe.com/xap/1.0/\0"
 REFUSED = 3
 QUIET = {"stdout": subprocess.DEVNULL, "stderr": subprocess.DEVNULL}
 
@@ -35,6 +36,12 @@ def sidecar(properties: int) -> bytes:
         f'<rdf:Description rdf:about="" xmlns:a="urn:a">\n{inside}</rdf:Description>\n</rdf:RDF>\n</x:xmpmeta>\n'
     )
     return (HEADER + text + " " * 4096 + TRAILER).encode()
+
+
+def photograph(packet: bytes) -> bytes:
+    """A JPEG file with this packet, and a scan of 50 MB."""
+    payload = SIGNATURE + packet
+    return b"\xff\xd8\xff\xe1" + (len(payload) + 2).to_bytes(2, "big") + payload + b"\xff\xda" + bytes(50_000_000) + b"\xff\xd9"
 
 
 def patch(program: str, photo: str, script: str) -> subprocess.Popen:
@@ -54,9 +61,11 @@ def read(path: str) -> bytes:
 
 def is_closed(old: bytes, new: bytes, now: bytes) -> bool:
     """Whether a closed packet holds the new bytes up to some place, and the old ones after it."""
-    if len(now) != len(old) or now[:1] != b" ":
+    first = old.index(b"<?xpacket")
+    if len(now) != len(old) or now[:first] != old[:first] or now[first : first + 1] != b" ":
         return False
-    place = next((n for n in range(1, len(now)) if now[n] != new[n]), len(now))
+    end = old.index(TRAILER.encode(), first) + len(TRAILER)
+    place = next((n for n in range(first + 1, end) if now[n] != new[n]), end)
     return now[place:] == old[place:]
 
 
@@ -87,10 +96,13 @@ def main() -> int:
     parser.add_argument("--runs", type=int, default=1000)
     parser.add_argument("--properties", type=int, default=20000)
     parser.add_argument("--seed", type=int, default=1)
+    parser.add_argument("--photograph", action="store_true")
     arguments = parser.parse_args()
     program = os.path.abspath(arguments.program)
     moments = random.Random(arguments.seed)
     old = sidecar(arguments.properties)
+    if arguments.photograph:
+        old = photograph(old)
     with tempfile.TemporaryDirectory() as folder:
         photo, script = os.path.join(folder, "photo.xmp"), os.path.join(folder, "script")
         write(script, b"set a:p0 another value\n")
