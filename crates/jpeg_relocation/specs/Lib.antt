@@ -1,0 +1,4 @@
+pub mod Relocation
+pub mod Runs
+pub mod Pictures
+pub mod NewSegments

@@ -1,0 +1,17 @@
+//! What a relocation keeps of a JPEG file, where the new segments stand, and the list of the new file.
+//!
+//! All but the main packet and the joined portions keeps its bytes and its order; regions that stay
+//! together are copied in one piece. It stands on `jpeg_regions`, `jpeg_extended`, `xmp_base` and
+//! `xmp_values`. Adobe XMP Specification Part 3, sections 1.1.3 and 1.1.3.1; ISO 10918-1, annex B.
+#![tactic(auto)]
+
+/// The index of a multi-picture file whose pictures a relocation would move.
+#[derive(Clone, Copy, Debug, PartialEq, Eq)]
+pub struct MovedPictures {
+    /// The start of the index's region.
+    pub start: u64,
+    /// The sum of the lengths of the regions after it.
+    pub old: u64,
+    /// The same sum in the new file.
+    pub new: u64,
+}
