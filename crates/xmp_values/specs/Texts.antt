@@ -1,5 +1,5 @@
 -- Texts in the order in which they are first seen.
-use Rattle.std.specs.Prelude.{◌≡◌, ℕ, if◌then◌else◌, List, [], ◌∷◌, ◌++◌, Option, map}
+use Rattle.std.specs.Prelude.{◌≡◌, ℕ, if◌then◌else◌, List, [], ◌∷◌, ◌++◌, Option, Some, map}
 use Rattle.std.specs.Borrow.{Bor}
 use Rattle.std.specs.List.{list_any, position_from}
 use Rattle.std.specs.Str.{bytes_eq}
@@ -26,3 +26,10 @@ text_in entries text = get_by (λ key. slice_cmp nat_cmp text key.now) entries
 -- a map has the place of each text of a list
 abbrev pub HasPlaces : BTreeMap (Bor (List ℕ)) ℕ → List (List ℕ) → Type 0
 HasPlaces places texts = (text : List ℕ) → text_in places text ≡ place_in texts text
+
+-- a map with a place for a text, and with its old places for all others
+abbrev pub IsPlaced : BTreeMap (Bor (List ℕ)) ℕ → BTreeMap (Bor (List ℕ)) ℕ → List ℕ → ℕ → Type 0
+IsPlaced old new placed place = (text : List ℕ) → text_in new text ≡ (if bytes_eq placed text then Some place else text_in old text)
+
+abbrev pub IsSameMap : BTreeMap (Bor (List ℕ)) ℕ → BTreeMap (Bor (List ℕ)) ℕ → Type 0
+IsSameMap old new = (text : List ℕ) → text_in new text ≡ text_in old text

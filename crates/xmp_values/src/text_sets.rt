@@ -2,7 +2,8 @@
 ghost use Rattle.std.specs.Prelude.{◌≡◌, [], length, not, IfOk, OnOk, OnErr};
 ghost use Rattle.std.specs.List.{list_any};
 ghost use Rattle.std.specs.Str.{bytes_eq};
-ghost use Rattle.xmp_values.specs.Texts.{with_text, place_in, texts_of};
+ghost use Rattle.std.specs.Option.{unwrap_or};
+ghost use Rattle.xmp_values.specs.Texts.{with_text, place_in, texts_of, text_in, IsPlaced, IsSameMap};
 
 use crate::Memory;
 use std::alloc::Global;
@@ -29,6 +30,19 @@ impl<'t> Model for TextSet<'t> {
     ghost invariant = { λ s. HasPlaces s.places (texts_of s.texts.items) };
 }
 
+/// The place that a map has for a text, which is `next` where it had none.
+fn place_for<'t>(
+    places: &mut BTreeMap<&'t [u8], usize>,
+    text: &'t [u8],
+    next: usize,
+) -> Result<usize, Memory>
+    ensures place { IfOk result (λ place. place ≡ unwrap_or (text_in places.old text.now) next) }
+    ensures ok { IfOk result (λ place. IsPlaced places.old places.new text.now place) }
+    ensures err { OnErr result (IsSameMap places.old places.new) }
+{
+    Ok(*places.entry(text)?.or_insert(next))
+}
+
 impl<'t> TextSet<'t> {
     /// The empty set, which takes no memory.
     pub fn new(alloc: Global) -> TextSet<'t>
@@ -47,13 +61,13 @@ impl<'t> TextSet<'t> {
         ensures ok { OnOk result (self.new ≡ with_text self.old text.now) }
         ensures err { OnErr result (self.new ≡ self.old) }
     {
-        if self.places.contains_key(text) {
+        let next = self.texts.len();
+        let place = place_for(&mut self.places, text, next)?;
+        if place < next {
             return Ok(false);
         }
-        let place = self.texts.len();
-        self.texts.push(text)?;
-        let Ok(_) = self.places.insert(text, place) else {
-            let _ = self.texts.pop();
+        let Ok(()) = self.texts.push(text) else {
+            self.places.remove(text);
             return Err(Memory);
         };
         Ok(true)
