@@ -1,4 +1,5 @@
 pub mod Relocation
+pub mod Roles
 pub mod Runs
 pub mod Pictures
 pub mod NewSegments

@@ -37,6 +37,9 @@ is_lead Other = false
 is_lead Alone = false
 is_lead Tail = false
 
+abbrev pub has_main : List Region → Bool
+has_main regions = list_any (λ r. is_main r.kind) regions
+
 -- as many kept regions as stand before the main one
 abbrev pub before_main : List FileSpan → List Region → ℕ
 before_main joined regions = length (kept joined (take_while (λ r. not (is_main r.kind)) regions))
@@ -45,7 +48,7 @@ before_main joined regions = length (kept joined (take_while (λ r. not (is_main
 -- segments of JFIF and of Exif that begins the kept ones.
 abbrev pub place : List FileSpan → List Region → ℕ
 place joined regions =
-    if list_any (λ r. is_main r.kind) regions then before_main joined regions
+    if has_main regions then before_main joined regions
     else prefix_len (λ r. is_lead r.kind) (kept joined regions)
 
 abbrev pub before : List FileSpan → List Region → List Region

@@ -5,13 +5,10 @@
 //! `xmp_values`. Adobe XMP Specification Part 3, sections 1.1.3 and 1.1.3.1; ISO 10918-1, annex B.
 #![tactic(auto)]
 
-/// The index of a multi-picture file whose pictures a relocation would move.
-#[derive(Clone, Copy, Debug, PartialEq, Eq)]
-pub struct MovedPictures {
-    /// The start of the index's region.
-    pub start: u64,
-    /// The sum of the lengths of the regions after it.
-    pub old: u64,
-    /// The same sum in the new file.
-    pub new: u64,
-}
+mod kept;
+mod pictures;
+mod roles;
+mod runs;
+
+pub use kept::KeptRuns;
+pub use pictures::{MovedPictures, PictureIndex};
