@@ -1,5 +1,14 @@
 pub mod Elements
 pub mod Indexes
+pub mod Located
 pub mod Merged
+pub mod Names
+pub mod NewFiles
+pub mod NewKinds
+pub mod NewLaws
+pub mod NewLengths
+pub mod NewRegions
+pub mod Pieces
 pub mod Places
+pub mod Relocated
 pub mod Steps

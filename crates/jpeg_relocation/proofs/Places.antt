@@ -71,7 +71,7 @@ split_kept : (joined : List FileSpan) (n : ℕ) (regions : List Region) → kept
 split_kept joined n regions = ap (kept joined) (sym (take-append-drop n regions)) ∙ filter-append (is_kept joined) (take n regions) (drop n regions)
 
 -- with a main region: all before it goes before the place
-goes_main : (joined : List FileSpan) (r : Region) → goes_before joined false r ≡ not (is_main r.kind)
+pub goes_main : (joined : List FileSpan) (r : Region) → goes_before joined false r ≡ not (is_main r.kind)
 goes_main joined r = by (is_main r.kind) (is_joined joined r)
   where
     by : (a b : Bool) → not (stops false (cond a Main (cond b Joined Kept)) r.kind) ≡ not a
@@ -79,7 +79,7 @@ goes_main joined r = by (is_main r.kind) (is_joined joined r)
     by false true = refl
     by false false = refl
 
-same_prefix : (p q : Region → Bool) → ((r : Region) → p r ≡ q r) → (rs : List Region) → prefix_len p rs ≡ prefix_len q rs
+pub same_prefix : (p q : Region → Bool) → ((r : Region) → p r ≡ q r) → (rs : List Region) → prefix_len p rs ≡ prefix_len q rs
 same_prefix p q h [] = refl
 same_prefix p q h (r ∷ rs) = (λ i. cond (h r i) (1 + same_prefix p q h rs i) 0)
 

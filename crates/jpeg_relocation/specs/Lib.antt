@@ -3,3 +3,4 @@ pub mod Roles
 pub mod Runs
 pub mod Pictures
 pub mod NewSegments
+pub mod Laws

@@ -6,9 +6,11 @@
 #![tactic(auto)]
 
 mod kept;
+mod laws;
 mod pictures;
 mod roles;
 mod runs;
 
 pub use kept::KeptRuns;
+pub use laws::{new_file_is_cut, new_lengths, portions_are_new, runs_are_pieces};
 pub use pictures::{MovedPictures, PictureIndex};
