@@ -10,6 +10,7 @@ use Rattle.xmp_base.specs.declared.file_span.FileSpan.{FileSpan}
 use Rattle.jpeg_regions.specs.Jpeg.{Region, span, is_extension, portion_payloads}
 use Rattle.jpeg_relocation.specs.Relocation.{same_span, is_joined}
 use Rattle.jpeg_relocation.specs.Roles.{IsNext}
+use Rattle.jpeg_relocation.specs.Runs.{AreAmong}
 use Rattle.jpeg_relocation.proofs.Elements.{dropped, there}
 
 pub same_is : (a b : FileSpan) → same_span a b ≡ true → a ≡ b
@@ -151,3 +152,19 @@ module _ (joined : List FileSpan) (regions : List Region) (i portion : ℕ) (r :
       by : (b : Bool) → is_joined joined r ≡ b → b ≡ false
       by true h = absurd (e (there joined portion r.payload later (first h)))
       by false h = refl
+
+-- All payloads, or none of them, are some of them.
+
+filter_true : (xs : List FileSpan) → xs ≡ filter (λ x. true) xs
+filter_true [] = refl
+filter_true (x ∷ xs) = ap (λ l. x ∷ l) (filter_true xs)
+
+filter_false : (xs : List FileSpan) → [] ≡ filter (λ x. false) xs
+filter_false [] = refl
+filter_false (x ∷ xs) = filter_false xs
+
+pub all_among : (joined all : List FileSpan) → joined ≡ all → AreAmong joined all
+all_among joined all is = record { chosen = λ x. true; is = is ∙ filter_true all }
+
+pub none_among : (joined all : List FileSpan) → joined ≡ [] → AreAmong joined all
+none_among joined all is = record { chosen = λ x. false; is = is ∙ filter_false all }

@@ -67,28 +67,28 @@ module _ (file : List ℕ) (joined : List FileSpan) (regions : List Region) (cut
   abbrev pub at : ℕ
   at = 2 + length (flat_map text first)
 
-  abbrev after_new : ℕ
+  abbrev pub after_new : ℕ
   after_new = at + length (flat_map text news)
 
-  abbrev front_spots : List Spot
+  abbrev pub front_spots : List Spot
   front_spots = located 2 first
 
   abbrev pub new_spots : List Spot
   new_spots = located at news
 
-  abbrev back_spots : List Spot
+  abbrev pub back_spots : List Spot
   back_spots = located after_new later
 
-  abbrev new_all : List Spot
+  abbrev pub new_all : List Spot
   new_all = front_spots ++ (new_spots ++ back_spots)
 
-  all_there : located 2 (first ++ (news ++ later)) ≡ new_all
+  pub all_there : located 2 (first ++ (news ++ later)) ≡ new_all
   all_there = located-append 2 first (news ++ later) ∙ ap (λ xs. front_spots ++ xs) (located-append at news later)
 
-  list_there : relocated_list joined regions news ≡ map there new_all
+  pub list_there : relocated_list joined regions news ≡ map there new_all
   list_there = new_listed file joined regions cuts news inner ∙ placed_is 2 (first ++ (news ++ later)) ∙ ap (map there) all_there
 
-  has_new : AllByRecursion (Has new) new_all
+  pub has_new : AllByRecursion (Has new) new_all
   has_new =
       let bytes : 0xFF ∷ 0xD8 ∷ (flat_map text (first ++ (news ++ later)) ++ []) ≡ new =
       ap (λ (l : List ℕ). 0xFF ∷ 0xD8 ∷ l) (append-nil (flat_map text (first ++ (news ++ later)))) ∙ sym (new_bytes file joined regions cuts news inner) in
@@ -181,7 +181,7 @@ module _ (file : List ℕ) (joined : List FileSpan) (regions : List Region) (cut
       ∙ (λ i. front_spots ++ (drops_new i ++ keeps_back i))
       )
 
-  has_kept : AllByRecursion (Has new) (front_spots ++ back_spots)
+  pub has_kept : AllByRecursion (Has new) (front_spots ++ back_spots)
   has_kept = all_both (Has new) front_spots back_spots (all_first (Has new) front_spots (new_spots ++ back_spots) has_new) (all_second (Has new) new_spots back_spots has_middle)
 
   pub same_bytes : map (part_of new) (kept joined_now (relocated_list joined regions news)) ≡ map (part_of file) (kept joined regions)

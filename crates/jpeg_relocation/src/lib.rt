@@ -10,6 +10,8 @@ mod laws;
 mod pictures;
 mod roles;
 mod runs;
+#[cfg(test)]
+mod tests;
 
 pub use kept::KeptRuns;
 pub use laws::{new_file_is_cut, new_lengths, portions_are_new, runs_are_pieces};
