@@ -1,5 +1,5 @@
 -- What joining portions of a file of a device does and answers.
-use Rattle.std.specs.Prelude.{◌≡◌, ℕ, ◌+◌, ◌-◌, ◌≤◌, min, Bool, List, ◌++◌, length, take, drop, map, filter, flat_map, slice_get, All, IfOk, IfSome, Vec, Option, Some, Ok, Err}
+use Rattle.std.specs.Prelude.{◌≡◌, ℕ, ◌+◌, ◌-◌, ◌≤◌, min, Bool, if◌then◌else◌, List, [], ◌∷◌, ◌++◌, length, take, drop, map, filter, flat_map, slice_get, All, IfOk, IfSome, Vec, Option, Some, Ok, Err}
 use Rattle.std.specs.declared.result.Result.{Result}
 use Rattle.std.specs.declared.alloc.Global.{Global}
 use Rattle.xmp_base.specs.Device.{DeskState, Moved, Told, Rose, SameFiles, NotFewer, bytes_of}
@@ -70,10 +70,24 @@ StopsOnly s t (Ok x) = Unit {0}
 StopsOnly s t (Err (Portions stop)) = stop ≡ stops.Memory
 StopsOnly s t (Err Device) = Rose s.faults t.faults
 
+-- those with a flag, in their order
+abbrev pub picked : List Bool → List FileSpan → List FileSpan
+picked [] all = []
+picked (flag ∷ flags) [] = []
+picked (flag ∷ flags) (payload ∷ payloads) = if flag then payload ∷ picked flags payloads else picked flags payloads
+
+-- some of all payloads, in their order
+pub record ArePicked (some all : List FileSpan) : Type 0 where
+  pub flags : List Bool
+  pub as_many : length flags ≡ length all
+  pub is : some ≡ picked flags all
+
 -- The portions of a name were found among payloads, of which the heads alone were read.
 pub record NamedCall (s t : DeskState) (file : List ℕ) (len : ℕ) (payloads : List FileSpan) (name : List ℕ) (result : Result (Vec FileSpan Global) JoinStop) : Type 0 where
   pub calls : PayloadCalls s t file (map head_range payloads)
   pub inside : IfOk result (λ named. AreInside len named.items)
+  -- they are some of these, whatever the device tells
+  pub among : IfOk result (λ named. ArePicked named.items payloads)
   pub told : IfOk result (λ named. Told s.files (λ files. named.items ≡ named_at (bytes_of files file) name payloads))
   pub stops : StopsOnly s t result
 

@@ -11,17 +11,17 @@ use Rattle.xmp_cli.specs.Reports.{one_length, two_lengths, report}
 same_by : (size : ℕ) (plan : Plan) → outcome_of plan ≡ outcomes.Same → one_length (codes "same") size ≡ report size plan
 same_by size Same e = refl
 same_by size (InPlace pieces) e = absurd (cc e)
-same_by size (Relocated file) e = absurd (cc e)
+same_by size (Relocated parts) e = absurd (cc e)
 
 in_place_by : (size : ℕ) (plan : Plan) → outcome_of plan ≡ outcomes.InPlace → one_length (codes "in-place") size ≡ report size plan
 in_place_by size Same e = absurd (cc e)
 in_place_by size (InPlace pieces) e = refl
-in_place_by size (Relocated file) e = absurd (cc e)
+in_place_by size (Relocated parts) e = absurd (cc e)
 
 relocated_by : (size : ℕ) (plan : Plan) → outcome_of plan ≡ outcomes.Relocated → two_lengths (codes "relocated") size (planned_len size plan) ≡ report size plan
 relocated_by size Same e = absurd (cc e)
 relocated_by size (InPlace pieces) e = absurd (cc e)
-relocated_by size (Relocated file) e = refl
+relocated_by size (Relocated parts) e = refl
 
 module _ (size : ℕ) (plan : Plan) (outcome : Outcome) (is : outcome ≡ outcome_of plan) (bytes : List ℕ) where
   pub report_same : (old : ℕ) → outcome ≡ outcomes.Same → old ≡ size → bytes ≡ one_length (codes "same") old → bytes ≡ report size plan

@@ -1,6 +1,6 @@
 -- The report of a command that writes a file.
-use Rattle.std.specs.Prelude.{ℕ, List, length, ◌++◌, codes, decimal}
-use Rattle.xmp_files.specs.Planning.{Plan, Same, InPlace, Relocated}
+use Rattle.std.specs.Prelude.{ℕ, List, ◌++◌, codes, decimal}
+use Rattle.xmp_files.specs.Planning.{Plan, Same, InPlace, Relocated, parts_len}
 
 -- a word and the length of the file, which stays
 abbrev pub one_length : List ℕ → ℕ → List ℕ
@@ -14,4 +14,4 @@ two_lengths word old new = word ++ codes " " ++ decimal old ++ codes " " ++ deci
 abbrev pub report : ℕ → Plan → List ℕ
 report size Same = one_length (codes "same") size
 report size (InPlace pieces) = one_length (codes "in-place") size
-report size (Relocated file) = two_lengths (codes "relocated") size (length file)
+report size (Relocated parts) = two_lengths (codes "relocated") size (parts_len parts)

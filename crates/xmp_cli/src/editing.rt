@@ -29,6 +29,7 @@ fn place<D: Desk>(
     requires known { get (D.state desk.old).lens file.now ≡ Some held.now.size }
     requires lies { IsOfSize held.now.size held.now }
     requires planned { IsScriptPlan held.now (is_inside edits) planned.now.plan }
+    requires sized { planned.now.size ≡ held.now.size }
     requires elsewhere { IsElsewhere file.now edits }
     ensures call { Placed (D.state desk.old) (D.state desk.new) held.now planned.now.plan file.now edits.entry result }
 {
@@ -51,6 +52,7 @@ fn finish<D: Desk, O: Sink>(
     requires known { get (D.state desk.old).lens file.now ≡ Some held.now.size }
     requires lies { IsOfSize held.now.size held.now }
     requires planned { IsScriptPlan held.now (is_inside edits) planned.now.plan }
+    requires sized { planned.now.size ≡ held.now.size }
     requires elsewhere { IsElsewhere file.now edits }
     ensures call { Finished (D.state desk.old) (D.state desk.new) (O.state out.old) (O.state out.new) held.now planned.now file.now edits.entry result }
 {

@@ -2,6 +2,7 @@
 ghost use Rattle.std.specs.Prelude.{◌≡◌};
 ghost use Rattle.xmp_values.specs.Stops.{place_of, Gives};
 ghost use Rattle.xmp_edit.specs.Scripts.{edits_made};
+ghost use Rattle.xmp_files.specs.Loads.{IsOfSize};
 ghost use Rattle.xmp_cli.specs.Edits.{edits_from, part_of};
 ghost use Rattle.xmp_cli.specs.EditSteps.{source, is_inside, TextCall, FromText, PlanCall};
 
@@ -111,6 +112,7 @@ fn plan_of_text(
     text: &[u8],
     edits: Edits<'_>,
 ) -> Result<Planned, FaultStop>
+    requires { IsOfSize held.now.size held.now }
     ensures { FromText (source edits.entry) (is_inside edits.entry) text.now held.now opened.now result }
 {
     let part = part_of(edits);
@@ -132,6 +134,7 @@ pub fn plan_of<D: Desk>(
     opened: &Opened<'_>,
     edits: Edits<'_>,
 ) -> Result<Planned, FileStop>
+    requires lies { IsOfSize held.now.size held.now }
     ensures call { PlanCall (source edits.entry) (is_inside edits.entry) (D.state desk.old) (D.state desk.new) held.now opened.now result }
 {
     let text = script_text(alloc, desk, edits)?;

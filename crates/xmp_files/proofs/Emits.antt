@@ -1,33 +1,29 @@
--- A new file is written piece by piece: what stands before the packet, the packet, and what stands after it.
-use Rattle.std.proofs.Common.{◌≡◌, ◌≢◌, ◌⊎◌, ℕ, ◌+◌, ◌-◌, ◌<◌, ◌≤◌, ◌^◌, Bool, List, [], ◌∷◌, ◌++◌, length, take, drop, refl, sym, ap, ◌∙◌, subst, arith, Ok, Err, Some, IsTrue, inl, inr, Result, IsErr, is_some, append_assoc, None}
+-- A new file is written part by part: ranges of the old one, and new bytes.
+use Rattle.std.proofs.Common.{◌≡◌, ◌≢◌, ◌⊎◌, ℕ, ◌+◌, ◌-◌, ◌<◌, ◌≤◌, ◌^◌, List, [], ◌∷◌, ◌++◌, length, take, drop, get_or, refl, sym, ap, ◌∙◌, subst, arith, Ok, Err, Some, IsTrue, inl, inr, Result, IsErr, is_some, append_assoc, add-one}
 use Rattle.std.specs.declared.option.Option.{Option}
 use Rattle.std.specs.Option.{option_map, unwrap_or}
-use Rattle.std.specs.Prelude.{MatchResult}
+use Rattle.std.specs.Prelude.{All, MatchResult}
 use Rattle.std.specs.FinMap.{get, insert}
-use Rattle.std.proofs.Math.Seq.{take-add}
-use Rattle.std.proofs.lemmas.List.{append-nil, length-drop, take_all, take-append-drop}
+use Rattle.std.proofs.Math.Seq.{take-add, drop-cons}
+use Rattle.std.proofs.lemmas.List.{append-nil, drop_all, take_all, take-append-drop, length-take-le, length-drop}
 use Rattle.std.proofs.lemmas.List.Elements.{All-append, All-weaker}
+use Rattle.std.proofs.lemmas.List.Sums.{sum_by-cons}
 use Rattle.xmp_base.specs.declared.device.Failed.{Failed}
-use Rattle.xmp_base.specs.Device.{DeskState, Files, Lens, Moved, Told, OthersKeep, CreateCall, bytes_of, len_of, is_known, put_at, Rose}
+use Rattle.xmp_base.specs.declared.file_span.FileSpan.{FileSpan}
+use Rattle.xmp_base.specs.Device.{DeskState, Files, Lens, Moved, Told, OthersKeep, CreateCall, bytes_of, len_of, is_known, Rose}
 use Rattle.xmp_base.specs.Whole.{ReadsOf}
 use Rattle.xmp_base.specs.Windows.{IsInside, Grown, Grows, GrownBy, AppendCall, CopyCall, PartOf, MovesInside}
 use Rattle.xmp_base.proofs.Names.{get-insert_same, get-insert_other}
 use Rattle.xmp_base.proofs.Ends.{grows_none, grows_both, grows_part, still_none, len_insert, created_len, created_other}
 use Rattle.xmp_base.proofs.Calls.{counts_trans, rose_after, reads_none}
 use Rattle.xmp_base.proofs.Inside.{inside_none, inside_wider}
-use Rattle.xmp_base.proofs.Ranges.{put_same}
-use Rattle.xmp_files.specs.declared.held.Need.{Need}
-use Rattle.xmp_files.specs.Faults.{no_file}
-use Rattle.xmp_files.specs.Keeping.{Piece, Container, Text, Kept, sidecar}
-use Rattle.xmp_files.specs.Loading.{IsLoaded}
-use Rattle.xmp_files.specs.Loads.{PayloadLies, IsOfSize}
-use Rattle.xmp_files.specs.Planning.{Edited, Plan, Same, InPlace, Relocated, planned_file}
-use Rattle.xmp_files.specs.Plans.{place_of, room_of, packet_of, least_of, padding, planned_len}
-use Rattle.xmp_files.specs.Planneds.{bytes_in, new_packet}
-use Rattle.xmp_files.specs.Emitting.{spliced, PiecesCall, SplicedCall, EmitCall, EmittedFile, IsPlanFor, most_piece}
-use Rattle.xmp_files.proofs.ExchangedPackets.{Stands, loaded_stands, whole_piece}
-use Rattle.xmp_files.proofs.LoadedKept.{loaded_sidecar, loaded_size}
-use Rattle.xmp_files.proofs.PlanCases.{IsExchange, IsAnew, Becomes, planned_cases}
+use Rattle.jpeg_extended.specs.FromDesk.{payload_at}
+use Rattle.xmp_files.specs.declared.parts.FilePart.{FilePart}
+use Rattle.xmp_files.specs.declared.parts.FilePart.TheVariants as kept
+use Rattle.xmp_files.specs.NewFiles.{part_at, parts_at, range_of, PartLies}
+use Rattle.xmp_files.specs.Planning.{Part, Old, New, part_bytes, part_len, parts_bytes, parts_len, Plan, planned_file}
+use Rattle.xmp_files.specs.Plans.{planned_len}
+use Rattle.xmp_files.specs.Emitting.{PiecesCall, PartCall, PartsCall, EmitCall, EmittedFile, most_piece}
 
 -- the first bytes were put at the end of a file
 pub record Put (s t : DeskState) (name bytes : List ℕ) (done : ℕ) : Type 0 where
@@ -135,70 +131,84 @@ module _ (s t : DeskState) (from to : List ℕ) (A : Files → List ℕ) (a : �
           (λ files mid told now grown. is files ∙ ap (λ (l : List ℕ). l ++ rest files) (copied_is files mid grown));
     }
 
-  module _ (u : DeskState) (bytes : List ℕ) where
-    pub front_put : PiecesCall t u to bytes (Ok tt) → Front s u from to (λ files. A files ++ bytes) (a + length bytes)
-    front_put call = record {
-      reads = reads_both from s.reads t.reads u.reads f.reads (reads_none from t.reads u.reads call.reads);
-      grows = grows_both s t t to A (λ files. A files ++ bytes) a (a + length bytes) most_piece f.grows (still_none t) u (λ mid. bytes) (length bytes) most_piece call.grows refl
-          (λ files mid told now grown. refl);
+  -- one part more
+  module _ (u : DeskState) (part : Part) where
+    pub front_more : PartCall t u from to part (Ok tt) → Front s u from to (λ files. A files ++ part_bytes (bytes_of files from) part) (a + part_len part)
+    front_more call = record {
+      reads = reads_both from s.reads t.reads u.reads f.reads call.reads;
+      grows = grows_both s t t to A (λ files. A files ++ part_bytes (bytes_of files from) part) a (a + part_len part) most_piece f.grows (still_none t) u
+          (λ mid. part_bytes (bytes_of mid from) part) (part_len part) most_piece call.grows refl
+          (λ files mid told now grown. ap (λ (l : List ℕ). A files ++ part_bytes l part) (sym (same_from files mid grown)));
     }
 
-    pub front_unput : (C rest : Files → List ℕ) (c : ℕ) (e failed : Failed) → PiecesCall t u to bytes (Err e) → a + length bytes ≤ c
-        → ((files : Files) → C files ≡ (A files ++ bytes) ++ rest files) → Broken s u from to C c failed
-    front_unput C rest c e failed call less is = record {
-      reads = reads_both from s.reads t.reads u.reads f.reads (reads_none from t.reads u.reads call.reads);
-      grows = grows_part s t t to A C a c most_piece f.grows (still_none t) u (λ mid. bytes) (length bytes) most_piece failed call.grows less (omega arith) rest
-          (λ files mid told now grown. is files);
+    pub front_stopped : (C rest : Files → List ℕ) (c : ℕ) (e failed : Failed) → PartCall t u from to part (Err e) → a + part_len part ≤ c
+        → ((files : Files) → C files ≡ (A files ++ part_bytes (bytes_of files from) part) ++ rest files) → Broken s u from to C c failed
+    front_stopped C rest c e failed call less is = record {
+      reads = reads_both from s.reads t.reads u.reads f.reads call.reads;
+      grows = grows_part s t t to A C a c most_piece f.grows (still_none t) u (λ mid. part_bytes (bytes_of mid from) part) (part_len part) most_piece failed call.grows less (omega arith) rest
+          (λ files mid told now grown. is files ∙ ap (λ (l : List ℕ). (A files ++ part_bytes l part) ++ rest files) (sym (same_from files mid grown)));
     }
 
--- A file with the bytes from one place up to another exchanged, put into an empty one.
-module _ (s : DeskState) (from to : List ℕ) (apart : from ≢ to) (at : ℕ) (bytes : List ℕ) (rest size : ℕ) (known : IsTrue (is_known s to)) where
-  abbrev before : Files → List ℕ
-  before files = take at (bytes_of files from)
+-- A part was put.
+pub part_copied : (s t : DeskState) (from to : List ℕ) (range : FileSpan) (most : ℕ) (result : Result (Unit {0}) Failed) → from ≢ to → IsTrue (is_known s to) → most ≤ most_piece
+    → CopyCall s t from range.start (range.end - range.start) to most result → PartCall s t from to (Old range) result
+part_copied s t from to range most (Ok unit) apart known small call =
+    let f = front_copied s s from to (λ _. []) 0 apart (front_none s from to known) t range.start (range.end - range.start) most small call in
+    let none : 0 + (range.end - range.start) ≡ range.end - range.start = omega arith in
+    record { reads = f.reads; grows = subst (λ (n : ℕ). Grows s t to (λ files. payload_at (bytes_of files from) range) n most_piece (Ok tt)) none f.grows }
+part_copied s t from to range most (Err e) apart known small call =
+    let b = front_uncopied s s from to (λ _. []) 0 apart (front_none s from to known) t range.start (range.end - range.start) most small
+    (λ files. payload_at (bytes_of files from) range) (λ _. []) (range.end - range.start) e e call (omega arith) (λ files. sym (append-nil (payload_at (bytes_of files from) range))) in
+    record { reads = b.reads; grows = b.grows }
 
-  abbrev back : Files → List ℕ
-  back files = take (size - rest) (drop rest (bytes_of files from))
+pub part_put : (s t : DeskState) (from to bytes : List ℕ) (result : Result (Unit {0}) Failed) → PiecesCall s t to bytes result → PartCall s t from to (New bytes) result
+part_put s t from to bytes result call = record { reads = reads_none from s.reads t.reads call.reads; grows = call.grows }
 
-  abbrev whole : Files → List ℕ
-  whole files = spliced (bytes_of files from) at bytes rest size
+-- Some parts of all were put, and these are left.
+pub record Standing (s t : DeskState) (from to : List ℕ) (all rest : List Part) (end : ℕ) : Type 0 where
+  pub done : Files → List ℕ
+  pub front : Front s t from to done end
+  pub whole : (files : Files) → parts_bytes (bytes_of files from) all ≡ done files ++ parts_bytes (bytes_of files from) rest
+  pub count : parts_len all ≡ end + parts_len rest
 
-  abbrev count : ℕ
-  count = at + length bytes + (size - rest)
+pub standing_none : (s : DeskState) (from to : List ℕ) (all : List Part) → IsTrue (is_known s to) → Standing s s from to all all 0
+standing_none s from to all known = record { done = λ _. []; front = front_none s from to known; whole = λ files. refl; count = omega arith }
 
-  ended : (t : DeskState) (failed : Failed) (result : Result (Unit {0}) Failed) → IsErr result → Broken s t from to whole count failed → SplicedCall s t from to at bytes rest size result
-  ended t failed (Ok x) err b = absurd (cc err)
-  ended t failed (Err f) err b = record { reads = b.reads; grows = b.grows }
+module _ (s t : DeskState) (from to : List ℕ) (all : List Part) (part : Part) (rest : List Part) (end : ℕ) (apart : from ≢ to) (a : Standing s t from to all (part ∷ rest) end) where
+  pub standing_room : end + part_len part ≤ parts_len all
+  standing_room = omega (arith, a.count, sum_by-cons part_len part rest)
 
-  module _ (t : DeskState) (most : ℕ) (small : most ≤ most_piece) where
-    pub first_failed : (e : Failed) (result : Result (Unit {0}) Failed) → IsErr result → CopyCall s t from 0 at to most (Err e) → SplicedCall s t from to at bytes rest size result
-    first_failed e result err call =
-        ended t e result err
-        (front_uncopied s s from to (λ _. []) 0 apart (front_none s from to known) t 0 at most small whole (λ files. bytes ++ back files) count e e call (omega arith)
-        (λ files. append_assoc (before files) bytes (back files)))
+  split_at : (files : Files) → parts_bytes (bytes_of files from) all ≡ (a.done files ++ part_bytes (bytes_of files from) part) ++ parts_bytes (bytes_of files from) rest
+  split_at files = a.whole files ∙ sym (append_assoc (a.done files) (part_bytes (bytes_of files from) part) (parts_bytes (bytes_of files from) rest))
 
-    module _ (first : CopyCall s t from 0 at to most (Ok tt)) where
-      pub put_first : Front s t from to before at
-      put_first =
-          let none : 0 + at ≡ at = omega arith in
-          subst (λ (n : ℕ). Front s t from to before n) none (front_copied s s from to (λ _. []) 0 apart (front_none s from to known) t 0 at most small first)
+  pub standing_more : (u : DeskState) → PartCall t u from to part (Ok tt) → Standing s u from to all rest (end + part_len part)
+  standing_more u call = record {
+    done = λ files. a.done files ++ part_bytes (bytes_of files from) part;
+    front = front_more s t from to a.done end apart a.front u part call;
+    whole = split_at;
+    count = omega (arith, a.count, sum_by-cons part_len part rest);
+  }
 
-      module _ (u : DeskState) where
-        pub second_failed : (e : Failed) (result : Result (Unit {0}) Failed) → IsErr result → PiecesCall t u to bytes (Err e) → SplicedCall s u from to at bytes rest size result
-        second_failed e result err call =
-            ended u e result err (front_unput s t from to before at apart put_first u bytes whole back count e e call (omega arith) (λ files. refl))
+  pub standing_stopped : (u : DeskState) (e : Failed) (result : Result (Unit {0}) Failed) → PartCall t u from to part (Err e) → IsErr result → PartsCall s u from to all result
+  standing_stopped u e (Ok x) call err = absurd (cc err)
+  standing_stopped u e (Err f) call err =
+      let b = front_stopped s t from to a.done end apart a.front u part (λ files. parts_bytes (bytes_of files from) all) (λ files. parts_bytes (bytes_of files from) rest) (parts_len all) e f call
+      standing_room split_at in
+      record { reads = b.reads; grows = b.grows }
 
-        module _ (second : PiecesCall t u to bytes (Ok tt)) where
-          pub put_second : Front s u from to (λ files. before files ++ bytes) (at + length bytes)
-          put_second = front_put s t from to before at apart put_first u bytes second
+pub standing_all : (s t : DeskState) (from to : List ℕ) (all : List Part) (end : ℕ) → Standing s t from to all [] end → PartsCall s t from to all (Ok tt)
+standing_all s t from to all end a =
+    let is : (files : Files) → a.done files ≡ parts_bytes (bytes_of files from) all = λ files. sym (append-nil (a.done files)) ∙ sym (a.whole files) in
+    let count : end ≡ parts_len all = omega (arith, a.count) in
+    record {
+      reads = a.front.reads;
+      grows = subst (λ (n : ℕ). Grows s t to (λ files. parts_bytes (bytes_of files from) all) n most_piece (Ok tt)) count
+          (subst (λ (b : Files → List ℕ). Grows s t to b end most_piece (Ok tt)) (λ i files. is files i) a.front.grows);
+    }
 
-          pub put_last : (v : DeskState) (more : ℕ) (result : Result (Unit {0}) Failed) → more ≤ most_piece → CopyCall u v from rest (size - rest) to more result
-              → SplicedCall s v from to at bytes rest size result
-          put_last v more (Ok unit) less call =
-              let f = front_copied s u from to (λ files. before files ++ bytes) (at + length bytes) apart put_second v rest (size - rest) more less call in record { reads = f.reads; grows = f.grows }
-          put_last v more (Err e) less call =
-              ended v e (Err e) refl
-              (front_uncopied s u from to (λ files. before files ++ bytes) (at + length bytes) apart put_second v rest (size - rest) more less whole (λ files. []) count e e call (omega arith)
-              (λ files. sym (append-nil (whole files))))
+-- the next of the parts that are kept
+pub next_part : (bytes : List ℕ) (parts : List FilePart) (i : ℕ) (x : FilePart) → i < length parts → parts_at bytes (drop i parts) ≡ part_at bytes (get_or parts i x) ∷ parts_at bytes (drop (i + 1) parts)
+next_part bytes parts i x below = rw add-one (ap (parts_at bytes) (drop-cons parts i x below))
 
 -- after the creation failed
 pub emit_unmade : (s t : DeskState) (plan : Plan) (size : ℕ) (from to : List ℕ) (e : Failed) (result : Result (Unit {0}) Failed) → CreateCall s t to (Err e) → IsErr result
@@ -213,17 +223,17 @@ emit_unmade s t plan size from to e (Err f) call err = record {
   failed = call.failed;
 }
 
-module _ (s t u : DeskState) (from to : List ℕ) (at : ℕ) (bytes : List ℕ) (rest size : ℕ) (apart : from ≢ to) (create : CreateCall s t to (Ok tt)) where
+module _ (s t u : DeskState) (from to : List ℕ) (parts : List Part) (apart : from ≢ to) (create : CreateCall s t to (Ok tt)) where
   long_others : (n : ℕ) → u.lens ≡ insert t.lens to n → OthersKeep s.lens u.lens to
   long_others n is other apart = ap (λ (m : Lens). get m other) is ∙ get-insert_other t.lens to n other apart ∙ created_other s t to create other apart
 
-  pieces_others : (result : Result (Unit {0}) Failed) → SplicedCall t u from to at bytes rest size result → OthersKeep s.lens u.lens to
-  pieces_others (Ok x) p = long_others _ p.grows.lens
-  pieces_others (Err f) p = let l = p.grows.lens in long_others _ l.1
+  parts_others : (result : Result (Unit {0}) Failed) → PartsCall t u from to parts result → OthersKeep s.lens u.lens to
+  parts_others (Ok x) p = long_others _ p.grows.lens
+  parts_others (Err f) p = let l = p.grows.lens in long_others _ l.1
 
-  pieces_failed : (result : Result (Unit {0}) Failed) → SplicedCall t u from to at bytes rest size result → MatchResult result (λ _. Unit {0}) (λ _. Rose s.faults u.faults)
-  pieces_failed (Ok x) p = tt
-  pieces_failed (Err f) p = rose_after s.faults t.faults u.faults create.counts.faults p.grows.failed
+  parts_failed : (result : Result (Unit {0}) Failed) → PartsCall t u from to parts result → MatchResult result (λ _. Unit {0}) (λ _. Rose s.faults u.faults)
+  parts_failed (Ok x) p = tt
+  parts_failed (Err f) p = rose_after s.faults t.faults u.faults create.counts.faults p.grows.failed
 
   -- the file that is read is there after the creation as before it
   created_from : (files : Files) → bytes_of (insert files to []) from ≡ bytes_of files from
@@ -237,161 +247,55 @@ module _ (s t u : DeskState) (from to : List ℕ) (at : ℕ) (bytes : List ℕ) 
       inr (g.0, g.2.grown [] (get-insert_same files to []), subst (λ (l : List ℕ). PartOf g.0 l most_piece) is g.1),
     )
 
-  pub emit_put : (plan : Plan) (old : ℕ) (result : Result (Unit {0}) Failed) → SplicedCall t u from to at bytes rest size result
-      → Told s.files (λ files. spliced (bytes_of files from) at bytes rest size ≡ planned_file (bytes_of files from) plan)
-      → at + length bytes + (size - rest) ≡ planned_len old plan → EmitCall s u plan old from to result
+  pub emit_put : (plan : Plan) (old : ℕ) (result : Result (Unit {0}) Failed) → PartsCall t u from to parts result
+      → Told s.files (λ files. parts_bytes (bytes_of files from) parts ≡ planned_file (bytes_of files from) plan) → parts_len parts ≡ planned_len old plan → EmitCall s u plan old from to result
   emit_put plan old result p is long = record {
     counts = counts_trans s t u create.counts p.grows.counts;
     reads = subst (λ (o : Option (List Moved)). ReadsOf from o u.reads) create.reads p.reads;
     wrote = subst (λ (o : Option (List Moved)). MovesInside to 0 (planned_len old plan) o u.wrote) create.wrote
-        (inside_wider to 0 (planned_len old plan) t.wrote (len_of t to) (len_of t to + (at + length bytes + (size - rest))) u.wrote (omega arith)
-        (omega (arith, created_len s t to create, long)) p.grows.wrote);
-    others = pieces_others result p;
+        (inside_wider to 0 (planned_len old plan) t.wrote (len_of t to) (len_of t to + parts_len parts) u.wrote (omega arith) (omega (arith, created_len s t to create, long)) p.grows.wrote);
+    others = parts_others result p;
     told = λ files told. let mid : t.files ≡ Some (insert files to []) = create.files ∙ ap (option_map (λ (files : Files). insert files to [])) told in
         let g = p.grows.files (insert files to []) mid in
-        let same : spliced (bytes_of (insert files to []) from) at bytes rest size ≡ planned_file (bytes_of files from) plan =
-        ap (λ (l : List ℕ). spliced l at bytes rest size) (created_from files) ∙ is files told in
-        let e = emitted files g.0 (spliced (bytes_of (insert files to []) from) at bytes rest size) (planned_file (bytes_of files from) plan) same result g.2 in (g.0, g.1, e.0, e.1);
-    failed = pieces_failed result p;
+        let same : parts_bytes (bytes_of (insert files to []) from) parts ≡ planned_file (bytes_of files from) plan =
+        ap (λ (l : List ℕ). parts_bytes l parts) (created_from files) ∙ is files told in
+        let e = emitted files g.0 (parts_bytes (bytes_of (insert files to []) from) parts) (planned_file (bytes_of files from) plan) same result g.2 in (g.0, g.1, e.0, e.1);
+    failed = parts_failed result p;
   }
 
--- The file of a plan is the old one with the payload's bytes exchanged.
+-- a part that lies where it must has the bytes of its range
+pub kept_len : (size : ℕ) (bytes : List ℕ) (part : FilePart) → PartLies size (length bytes) part → part_len (part_at bytes part) ≡ (range_of part).end - (range_of part).start
+kept_len size bytes (kept.Old range) lies = refl
+kept_len size bytes (kept.New range) lies = length-take-le _ _ (omega (arith, length-drop range.start bytes, lies.0, lies.1))
 
-spliced_put : (file : List ℕ) (size at n : ℕ) (bytes : List ℕ) → length file ≡ size → at + n ≤ size → length bytes ≡ n → spliced file at bytes (at + n) size ≡ put_at file at bytes
-spliced_put file size at n bytes whole within as_long =
-    ap (λ (l : List ℕ). (take at file ++ bytes) ++ l)
-    (take_all (size - (at + n)) (drop (at + n) file) (omega (arith, length-drop (at + n) file, whole)) ∙ ap (λ (k : ℕ). drop (at + k) file) (sym as_long))
+-- The loop over the parts.
+module _ (s t : DeskState) (from to bytes : List ℕ) (parts : List FilePart) (i end : ℕ) (d : FilePart) (apart : from ≢ to) (below : i < length parts)
+    (a : Standing s t from to (parts_at bytes parts) (parts_at bytes (drop i parts)) end) where
+  abbrev part : FilePart
+  part = get_or parts i d
 
-spliced_same : (file : List ℕ) (size : ℕ) (q : Piece) → length file ≡ size → Stands file q → spliced file q.at q.bytes (q.at + length q.bytes) size ≡ file
-spliced_same file size q whole stands =
-    spliced_put file size q.at (length q.bytes) q.bytes whole (omega (arith, stands.within, whole)) refl
-    ∙ ap (put_at file q.at) (sym stands.there) ∙ sym (put_same q.at (length q.bytes) file stands.within)
+  here : Standing s t from to (parts_at bytes parts) (part_at bytes part ∷ parts_at bytes (drop (i + 1) parts)) end
+  here = subst (λ (l : List Part). Standing s t from to (parts_at bytes parts) l end) (next_part bytes parts i d below) a
 
-spliced_none : (file : List ℕ) (size : ℕ) → length file ≡ size → spliced file 0 [] 0 size ≡ file
-spliced_none file size whole = take_all (size - 0) file (omega (arith, whole))
+  pub loop_lies : All (PartLies (len_of s from) (length bytes)) parts → PartLies (len_of t from) (length bytes) part
+  loop_lies inside = subst (λ (n : ℕ). PartLies n (length bytes) part) (sym (front_size s t from to a.done end apart a.front)) (inside i d below)
 
-spliced_anew : (file new : List ℕ) (size : ℕ) → length file ≡ size → spliced file 0 new (0 + length file) size ≡ new
-spliced_anew file new size whole =
-    (let none : size - (0 + length file) ≡ 0 = omega (arith, whole) in ap (λ (k : ℕ). new ++ take k (drop (0 + length file) file)) none) ∙ append-nil new
+  pub loop_room : parts_len (parts_at bytes parts) < 2 ^ 64 → end + part_len (part_at bytes part) < 2 ^ 64
+  loop_room room = let less = standing_room s t from to (parts_at bytes parts) (part_at bytes part) (parts_at bytes (drop (i + 1) parts)) end apart here in omega (arith, less, room)
 
-abbrev PlannedBytes : List ℕ → ℕ → Option Piece → Plan → Type 0
-PlannedBytes file size payload plan = spliced file (place_of payload) (new_packet payload plan) (place_of payload + room_of payload) size ≡ planned_file file plan
+  pub loop_fits : All (PartLies (len_of s from) (length bytes)) parts → parts_len (parts_at bytes parts) < 2 ^ 64 → (len : ℕ) → len ≡ (range_of part).end - (range_of part).start → end + len < 2 ^ 64
+  loop_fits inside room len is = let size = kept_len (len_of s from) bytes part (inside i d below) in let less = loop_room room in omega (arith, less, size, is)
 
--- of a plan that keeps the bytes
-kept_bytes : (file : List ℕ) (size : ℕ) (payload : Option Piece) → length file ≡ size → ((q : Piece) → payload ≡ Some q → Stands file q)
-    → spliced file (place_of payload) (bytes_in payload) (place_of payload + room_of payload) size ≡ file
-kept_bytes file size None whole stands = spliced_none file size whole
-kept_bytes file size (Some q) whole stands = spliced_same file size q whole (stands q refl)
+  pub loop_more : All (PartLies (len_of s from) (length bytes)) parts → (u : DeskState) → PartCall t u from to (part_at bytes part) (Ok tt) → (len : ℕ) → len ≡ (range_of part).end - (range_of part).start
+      → Standing s u from to (parts_at bytes parts) (parts_at bytes (drop (i + 1) parts)) (end + len)
+  loop_more inside u call len is =
+      subst (λ (n : ℕ). Standing s u from to (parts_at bytes parts) (parts_at bytes (drop (i + 1) parts)) (end + n)) (kept_len (len_of s from) bytes part (inside i d below) ∙ sym is)
+      (standing_more s t from to (parts_at bytes parts) (part_at bytes part) (parts_at bytes (drop (i + 1) parts)) end apart here u call)
 
-planned_kept : (file : List ℕ) (size : ℕ) (payload : Option Piece) (plan : Plan) → length file ≡ size → ((q : Piece) → payload ≡ Some q → Stands file q)
-    → (plan ≡ Same) ⊎ (plan ≡ InPlace []) → PlannedBytes file size payload plan
-planned_kept file size payload plan whole stands (inl is) = subst (PlannedBytes file size payload) (sym is) (kept_bytes file size payload whole stands)
-planned_kept file size payload plan whole stands (inr is) = subst (PlannedBytes file size payload) (sym is) (kept_bytes file size payload whole stands)
+  pub loop_stopped : (u : DeskState) (e : Failed) (result : Result (Unit {0}) Failed) → PartCall t u from to (part_at bytes part) (Err e) → IsErr result → PartsCall s u from to (parts_at bytes parts) result
+  loop_stopped u e result call err = standing_stopped s t from to (parts_at bytes parts) (part_at bytes part) (parts_at bytes (drop (i + 1) parts)) end apart here u e result call err
 
-planned_exchange : (file : List ℕ) (size : ℕ) (payload : Option Piece) (e : Edited) (plan : Plan) → length file ≡ size → ((q : Piece) → payload ≡ Some q → Stands file q)
-    → IsExchange payload e plan → PlannedBytes file size payload plan
-planned_exchange file size payload e plan whole stands x =
-    let q : Piece = x.old in
-    let new : List ℕ = packet_of e (length q.bytes) in
-    let put : spliced file q.at new (q.at + length q.bytes) size ≡ put_at file q.at new =
-    spliced_put file size q.at (length q.bytes) new whole (omega (arith, (stands q x.there).within, whole)) x.as_long in
-    subst (λ (o : Option Piece). PlannedBytes file size o plan) (sym x.there) (subst (PlannedBytes file size (Some q)) (sym x.is) put)
-
-planned_anew : (file : List ℕ) (size : ℕ) (payload : Option Piece) (container : Container) (e : Edited) (plan : Plan) → length file ≡ size
-    → (container ≡ Text → payload ≡ Some (whole_piece file)) → IsAnew container e plan → PlannedBytes file size payload plan
-planned_anew file size payload container e plan whole form x =
-    subst (λ (o : Option Piece). PlannedBytes file size o plan) (sym (form x.text))
-    (subst (PlannedBytes file size (Some (whole_piece file))) (sym x.is) (spliced_anew file (packet_of e (least_of e + padding)) size whole))
-
-planned_by : (file : List ℕ) (kept : Kept) (e : Edited) (plan : Plan) → length file ≡ kept.size → ((q : Piece) → kept.payload ≡ Some q → Stands file q)
-    → (kept.container ≡ Text → kept.payload ≡ Some (whole_piece file)) → Becomes kept.payload kept.container e plan → PlannedBytes file kept.size kept.payload plan
-planned_by file kept e plan whole stands form (inl h) = planned_kept file kept.size kept.payload plan whole stands h.1
-planned_by file kept e plan whole stands form (inr (same, inl x)) = planned_exchange file kept.size kept.payload e plan whole stands x
-planned_by file kept e plan whole stands form (inr (same, inr x)) = planned_anew file kept.size kept.payload kept.container e plan whole form x
-
--- a file that was loaded is there
-pub loaded_there : (need : Need) (file : Option (List ℕ)) (kept : Kept) → IsLoaded need file (Ok kept) → file ≡ Some (unwrap_or file [])
-loaded_there need None kept h = absurd (let bad : Ok kept ≡ Err no_file = h in cc)
-loaded_there need (Some bytes) kept h = refl
-
-module _ (s : DeskState) (held : Kept) (new : Plan) (from : List ℕ) (loaded : Told s.files (λ files. IsLoaded held.need (get files from) (Ok held))) (plan : IsPlanFor held new) where
-  pub planned_bytes : Told s.files (λ files. spliced (bytes_of files from) (place_of held.payload) (new_packet held.payload new) (place_of held.payload + room_of held.payload) held.size
-      ≡ planned_file (bytes_of files from) new)
-  planned_bytes files told =
-      let old : List ℕ = bytes_of files from in
-      let here : IsLoaded held.need (Some old) (Ok held) =
-      subst (λ (o : Option (List ℕ)). IsLoaded held.need o (Ok held)) (loaded_there held.need (get files from) held (loaded files told)) (loaded files told) in
-      planned_by old held plan.2 new (sym (loaded_size held.need (Some old) held here)) (λ q there. loaded_stands held.need old held q here there)
-      (λ text. ap (λ (k : Kept). k.payload) (loaded_sidecar held.need (Some old) held here text).is)
-      (planned_cases held plan.0 plan.1 plan.2 new plan.3)
-
--- how many bytes are put
-abbrev PlannedSize : ℕ → Option Piece → Plan → Type 0
-PlannedSize size payload plan = place_of payload + length (new_packet payload plan) + (size - (place_of payload + room_of payload)) ≡ planned_len size plan
-
-kept_size : (size : ℕ) (payload : Option Piece) → PayloadLies size payload → place_of payload + length (bytes_in payload) + (size - (place_of payload + room_of payload)) ≡ size
-kept_size size None lies = omega arith
-kept_size size (Some q) lies = omega (arith, lies.0)
-
-size_kept : (size : ℕ) (payload : Option Piece) (plan : Plan) → PayloadLies size payload → (plan ≡ Same) ⊎ (plan ≡ InPlace []) → PlannedSize size payload plan
-size_kept size payload plan lies (inl is) = subst (PlannedSize size payload) (sym is) (kept_size size payload lies)
-size_kept size payload plan lies (inr is) = subst (PlannedSize size payload) (sym is) (kept_size size payload lies)
-
-size_exchange : (size : ℕ) (payload : Option Piece) (e : Edited) (plan : Plan) → PayloadLies size payload → IsExchange payload e plan → PlannedSize size payload plan
-size_exchange size payload e plan lies x =
-    let q : Piece = x.old in
-    let here : PayloadLies size (Some q) = subst (PayloadLies size) x.there lies in
-    subst (λ (o : Option Piece). PlannedSize size o plan) (sym x.there) (subst (PlannedSize size (Some q)) (sym x.is) (omega (arith, here.0, x.as_long)))
-
-size_anew : (size : ℕ) (payload : Option Piece) (container : Container) (e : Edited) (plan : Plan) (bytes : List ℕ) → (container ≡ Text → payload ≡ Some (whole_piece bytes))
-    → (container ≡ Text → size ≡ length bytes) → IsAnew container e plan → PlannedSize size payload plan
-size_anew size payload container e plan bytes form long x =
-    let all = long x.text in
-    subst (λ (o : Option Piece). PlannedSize size o plan) (sym (form x.text)) (subst (PlannedSize size (Some (whole_piece bytes))) (sym x.is) (omega (arith, all)))
-
-size_by : (kept : Kept) (e : Edited) (plan : Plan) → PayloadLies kept.size kept.payload → (kept.container ≡ Text → kept ≡ sidecar kept.need (bytes_in kept.payload))
-    → Becomes kept.payload kept.container e plan → PlannedSize kept.size kept.payload plan
-size_by kept e plan lies form (inl h) = size_kept kept.size kept.payload plan lies h.1
-size_by kept e plan lies form (inr (same, inl x)) = size_exchange kept.size kept.payload e plan lies x
-size_by kept e plan lies form (inr (same, inr x)) =
-    size_anew kept.size kept.payload kept.container e plan (bytes_in kept.payload) (λ text. ap (λ (k : Kept). k.payload) (form text)) (λ text. ap (λ (k : Kept). k.size) (form text)) x
-
-pub planned_size : (held : Kept) (new : Plan) → IsPlanFor held new → IsOfSize held.size held → (held.container ≡ Text → held ≡ sidecar held.need (bytes_in held.payload))
-    → place_of held.payload + length (new_packet held.payload new) + (held.size - (place_of held.payload + room_of held.payload)) ≡ planned_len held.size new
-planned_size held new plan lies form = size_by held plan.2 new lies.payload form (planned_cases held plan.0 plan.1 plan.2 new plan.3)
-
--- the payload ends in the file
-pub payload_end : (size : ℕ) (payload : Option Piece) → PayloadLies size payload → place_of payload + room_of payload ≤ size
-payload_end size None lies = omega arith
-payload_end size (Some q) lies = lies.0
-
--- The same of the numbers and the bytes as the code has them.
-module _ (held : Kept) (new : Plan) (at len size : ℕ) (bytes : List ℕ) (at_is : at ≡ place_of held.payload) (len_is : len ≡ room_of held.payload) (size_is : size ≡ held.size)
-    (bytes_is : bytes ≡ new_packet held.payload new) (lies : IsOfSize held.size held) where
-  pub ends_within : at + len ≤ size
-  ends_within = let end = payload_end held.size held.payload lies.payload in omega (arith, at_is, len_is, size_is, end)
-
-  module _ (plan : IsPlanFor held new) (form : held.container ≡ Text → held ≡ sidecar held.need (bytes_in held.payload)) where
-    pub emit_room : at + length bytes + (size - (at + len)) ≡ planned_len held.size new
-    emit_room = (λ i. at_is i + length (bytes_is i) + (size_is i - (at_is i + len_is i))) ∙ planned_size held new plan lies form
-
-    -- either the old length or that of the new packet
-    fits_by : (p : Plan) → (planned_len held.size p ≡ held.size) ⊎ (planned_len held.size p ≡ length (new_packet held.payload p))
-    fits_by Same = inl refl
-    fits_by (InPlace pieces) = inl refl
-    fits_by (Relocated file) = inr refl
-
-    small_by : (planned_len held.size new ≡ held.size) ⊎ (planned_len held.size new ≡ length (new_packet held.payload new)) → length bytes < 2 ^ 64 → size < 2 ^ 64
-        → at + length bytes + (size - (at + len)) < 2 ^ 64
-    small_by (inl e) short small = omega (arith, emit_room, e, size_is, small)
-    small_by (inr e) short small = let same = ap (λ (l : List ℕ). length l) bytes_is in omega (arith, emit_room, e, same, short)
-
-    pub emit_fits : length bytes < 2 ^ 64 → size < 2 ^ 64 → at + length bytes + (size - (at + len)) < 2 ^ 64
-    emit_fits = small_by (fits_by new)
-
-    module _ (s t u : DeskState) (from to : List ℕ) (apart : from ≢ to) (loaded : Told s.files (λ files. IsLoaded held.need (get files from) (Ok held))) (create : CreateCall s t to (Ok tt)) where
-      pub emit_done : (result : Result (Unit {0}) Failed) → SplicedCall t u from to at bytes (at + len) size result → EmitCall s u new held.size from to result
-      emit_done result p =
-          emit_put s t u from to at bytes (at + len) size apart create new held.size result p
-          (λ files told. (λ i. spliced (bytes_of files from) (at_is i) (bytes_is i) (at_is i + len_is i) (size_is i)) ∙ planned_bytes s held new from loaded plan files told)
-          emit_room
+pub loop_all : (s t : DeskState) (from to bytes : List ℕ) (parts : List FilePart) (i end : ℕ) → length parts ≤ i → Standing s t from to (parts_at bytes parts) (parts_at bytes (drop i parts)) end
+    → PartsCall s t from to (parts_at bytes parts) (Ok tt)
+loop_all s t from to bytes parts i end past a =
+    standing_all s t from to (parts_at bytes parts) end (subst (λ (l : List FilePart). Standing s t from to (parts_at bytes parts) (parts_at bytes l) end) (drop_all i parts past) a)

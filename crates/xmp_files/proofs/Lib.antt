@@ -9,6 +9,7 @@ pub mod NeverMissing
 pub mod Placing
 pub mod PacketLengths
 pub mod Emits
+pub mod EmittedPlans
 pub mod WrittenSidecars
 pub mod Writes
 pub mod OnePlan
@@ -16,6 +17,10 @@ pub mod LoadedKept
 pub mod MayBeWritten
 pub mod Patches
 pub mod PlanCases
+pub mod PickedPortions
+pub mod KeptLie
+pub mod Relocations
+pub mod RelocatedPhotographs
 pub mod ExchangedPackets
 pub mod OpenPackets
 pub mod WrittenPhotographs

@@ -20,7 +20,7 @@ use Rattle.jpeg_regions.specs.Cutting.{Tiles}
 use Rattle.jpeg_regions.specs.FromDesk.{near_end}
 use Rattle.jpeg_regions.proofs.Places.{cuts_tile, lies, one_place}
 use Rattle.jpeg_regions.proofs.Faults.{cuts_same}
-use Rattle.jpeg_extended.specs.FromDesk.{named_at, portions_at, is_portion_at, head_range, AreInside, InPayload, PayloadCalls, StopsOnly, NamedCall}
+use Rattle.jpeg_extended.specs.FromDesk.{named_at, portions_at, is_portion_at, head_range, AreInside, ArePicked, InPayload, PayloadCalls, StopsOnly, NamedCall}
 use Rattle.jpeg_extended.specs.declared.from_desk.JoinStop.{JoinStop}
 use Rattle.jpeg_extended.specs.declared.from_desk.JoinStop.TheVariants as joins
 use Rattle.xmp_files.specs.declared.kinds.Kind.TheVariants.{Jpeg}
@@ -37,6 +37,7 @@ use Rattle.xmp_files.specs.Loads.{IsNoteFor, FailsOnly, JoinedCall, OfPortions, 
 use Rattle.xmp_files.proofs.Loads.{Sized, inside_idle, spared_none}
 use Rattle.xmp_files.proofs.LoadedPhotographs.{has_cut, inside_both}
 use Rattle.xmp_files.proofs.OnePhotograph.{one_name}
+use Rattle.xmp_files.proofs.PickedPortions.{none_picked}
 
 -- Where portions stand.
 
@@ -157,6 +158,7 @@ module _ (s t : DeskState) (name : List ℕ) (size : ℕ) (payloads : List FileS
   named_stopped stop out call is = subst (λ (f : FileStop). ExtendedCall s t name size payloads note (Err f)) (sym is) (record {
     calls = payload_reads s t name size (map head_range payloads) (heads_inside size payloads inside) call.calls;
     near = heads_near call.calls;
+    among = tt;
     told = tt;
     fails = by stop call.stops;
   })
@@ -188,6 +190,7 @@ module _ (s t : DeskState) (name : List ℕ) (size : ℕ) (payloads : List FileS
   found_joined found call u extended after text is same = record {
     calls = found_reads found call u (Ok extended) after;
     near = found_near found call u (Ok extended) after;
+    among = subst (λ (ps : List FileSpan). ArePicked ps payloads) (sym is) call.among;
     told = λ files told. (
       is ∙ call.told files told,
       subst (λ (ps : List FileSpan). IsExtended (portions_at (bytes_of files name) note ps) text.joined) (sym is)
@@ -201,6 +204,7 @@ module _ (s t : DeskState) (name : List ℕ) (size : ℕ) (payloads : List FileS
   found_stopped found call u stop after = record {
     calls = found_reads found call u (Err stop) after;
     near = found_near found call u (Err stop) after;
+    among = tt;
     told = tt;
     fails = by stop after.fails;
   }
@@ -220,9 +224,9 @@ named_by (p ∷ ps) piece name short h = inr (short, h)
 
 module _ (need : Need) (s : DeskState) (name : List ℕ) (size : ℕ) (sized : Sized s name size) (kind : Told s.files (λ files. kind_of (bytes_of files name) ≡ Some Jpeg)) (regions : List Region) (piece : Piece)
     (jpeg : Told s.files (λ files. IsJpeg (bytes_of files name) regions)) (packet : Told s.files (λ files. Some piece ≡ main_packet (bytes_of files name) regions))
-    (lies : piece.at + length piece.bytes ≤ size) (short : length piece.bytes ≤ packet_limit) where
-  of_size : (portions : List FileSpan) (extended : Option Extended) → IsOfSize size (photograph need size regions (Some piece) portions extended)
-  of_size portions extended = record { whole = refl; payload = (lies, short) }
+    (lies : piece.at + length piece.bytes ≤ size) (short : length piece.bytes ≤ packet_limit) (tiles : Tiles 2 size regions) where
+  of_size : (portions : List FileSpan) (extended : Option Extended) → ArePicked portions (portion_payloads regions) → IsOfSize size (photograph need size regions (Some piece) portions extended)
+  of_size portions extended among = record { whole = refl; payload = (lies, short); container = (tiles, among) }
 
   -- a file that has these portions of an extended text, with what they give
   kept_cut : (kept : Kept) (portions : List FileSpan) (extended : Option Extended) (files : Files) → s.files ≡ Some files → kept ≡ photograph need size regions (Some piece) portions extended
@@ -254,7 +258,7 @@ module _ (need : Need) (s : DeskState) (name : List ℕ) (size : ℕ) (sized : S
       calls = inside_idle s name size;
       spared = spared_none need s s name refl;
       told = λ files told. kept_cut kept [] None files told is None (named None note) refl refl;
-      held = subst (IsOfSize size) (sym is) (of_size [] None);
+      held = subst (IsOfSize size) (sym is) (of_size [] None (none_picked (portion_payloads regions)));
       fails = tt;
     }
 
@@ -289,7 +293,7 @@ module _ (need : Need) (s : DeskState) (name : List ℕ) (size : ℕ) (sized : S
             let file : List ℕ = bytes_of files name in
             let found = call.told files told in
             kept_cut kept text.portions.items text.joined files told is (Some note) (named (Some note) noted) (found.0 ∙ ap (named_at file note) payloads_are) found.1;
-        held = subst (IsOfSize size) (sym is) (of_size text.portions.items text.joined);
+        held = subst (IsOfSize size) (sym is) (of_size text.portions.items text.joined (subst (ArePicked text.portions.items) payloads_are call.among));
         fails = tt;
       }
 

@@ -40,6 +40,7 @@ use Rattle.xmp_files.specs.Meanings.{IsNote}
 use Rattle.xmp_files.specs.Loading.{known, kind_of_file, limited_by, IsContained}
 use Rattle.xmp_files.specs.Sparing.{IsUnread, Spares, HasContainer, Spared}
 use Rattle.xmp_files.specs.Loads.{SizedCall, KeptCall, IsLoadRefusal, PayloadLies, IsOfSize, read_before, cut_stop}
+use Rattle.xmp_files.proofs.PickedPortions.{none_picked}
 use Rattle.xmp_files.proofs.Loads.{Sized, sized_refusal, known_as, by_known, spared_trans}
 
 -- Kinds.
@@ -279,7 +280,7 @@ module _ (need : Need) (s t : DeskState) (name : List ℕ) (size : ℕ) (sized :
           joins = refl;
           is = is ∙ ap (λ (n : ℕ). photograph need n regions None [] None) (sym (sized.whole files told)) ∙ ap (λ (packet : Option Piece). photograph need (length file) regions packet [] None) (sym empty);
         })
-        (subst (IsOfSize size) (sym is) (record { whole = refl; payload = tt }))
+        (subst (IsOfSize size) (sym is) (record { whole = refl; payload = tt; container = (call.tiles, none_picked (portion_payloads regions)) }))
 
     module _ (payload range : FileSpan) (main : main_payload regions ≡ Some payload) (ranged : range ≡ packet_range payload) where
       -- where the packet stands

@@ -32,6 +32,7 @@ use Rattle.xmp_files.specs.Loading.{known, kind_of_file, IsKept, IsLoaded}
 use Rattle.xmp_files.specs.Opening.{Holds, IsWhole, HoldsTree}
 use Rattle.xmp_files.specs.Planning.{Edited, Plan, Same, InPlace, planned_file}
 use Rattle.xmp_files.specs.Plans.{packet_of, least_of, padding, fits, fits_payload, exchanged, digest_pieces, whole_form, told, needs_relocation, room_of, place_of, IsEdited, IsPlanned, OrRelocation, stays}
+use Rattle.xmp_base.specs.declared.file_span.FileSpan.{FileSpan}
 use Rattle.xmp_files.specs.Loads.{PayloadLies, IsOfSize}
 use Rattle.xmp_files.specs.Patching.{IsLeft, IsPatchPlan, PatchCall, DocumentOrFault, FileIsPatched, new_payload}
 use Rattle.xmp_files.proofs.ClosedPackets.{closed_some, photograph_refused}
@@ -42,24 +43,24 @@ use Rattle.xmp_files.proofs.PacketLengths.{over_all}
 use Rattle.xmp_files.proofs.PlanCases.{IsExchange, exchange_of}
 use Rattle.xmp_files.proofs.Writes.{file_written}
 
-patch_cases : (over fit : Bool) (f g : Fault) (inside : Plan) (container : Container) (e : Edited) (plan : Plan)
-    → OrRelocation (if over then Some (Err f) else (if fit then Some (Ok inside) else (if true then Some (Err g) else None))) container e (Ok plan)
+patch_cases : (over fit : Bool) (f g : Fault) (inside : Plan) (container : Container) (portions : List FileSpan) (e : Edited) (plan : Plan)
+    → OrRelocation (if over then Some (Err f) else (if fit then Some (Ok inside) else (if true then Some (Err g) else None))) container portions e (Ok plan)
     → (fit ≡ true) × (plan ≡ inside)
-patch_cases true fit f g inside container e plan h = absurd (let bad : Ok plan ≡ Err f = h in cc)
-patch_cases false true f g inside container e plan h = (refl, let is : Ok plan ≡ Ok inside = h in cc)
-patch_cases false false f g inside container e plan h = absurd (let bad : Ok plan ≡ Err g = h in cc)
+patch_cases true fit f g inside container portions e plan h = absurd (let bad : Ok plan ≡ Err f = h in cc)
+patch_cases false true f g inside container portions e plan h = (refl, let is : Ok plan ≡ Ok inside = h in cc)
+patch_cases false false f g inside container portions e plan h = absurd (let bad : Ok plan ≡ Err g = h in cc)
 
-edited_plan : (payload : Option Piece) (container : Container) (joined : Bool) (e : Edited) (plan : Plan) → e.digest ≡ None → IsEdited payload container joined true e (Ok plan)
+edited_plan : (payload : Option Piece) (container : Container) (portions : List FileSpan) (joined : Bool) (e : Edited) (plan : Plan) → e.digest ≡ None → IsEdited payload container portions joined true e (Ok plan)
     → (plan ≡ Same) ⊎ IsExchange payload e plan
-edited_plan payload container joined e plan fixed (inl h) = inl (let is : Ok plan ≡ Ok (stays container e.digest) = h.1 in let same : stays container e.digest ≡ Same = ap (stays container) fixed in cc)
-edited_plan payload container joined e plan fixed (inr h) =
+edited_plan payload container portions joined e plan fixed (inl h) = inl (let is : Ok plan ≡ Ok (stays container e.digest) = h.1 in let same : stays container e.digest ≡ Same = ap (stays container) fixed in cc)
+edited_plan payload container portions joined e plan fixed (inr h) =
     let c = patch_cases (nat_lt packet_limit (least_of e + padding)) (fits payload joined (least_of e)) (over_packet (told (least_of e + padding)))
-    (needs_relocation (told (least_of e)) (room_of payload)) (InPlace (exchanged payload e ++ digest_pieces container e.digest)) container e plan h.1 in
+    (needs_relocation (told (least_of e)) (room_of payload)) (InPlace (exchanged payload e ++ digest_pieces container e.digest)) container portions e plan h.1 in
     inr (exchange_of payload container joined e plan c.0 c.1)
 
 -- without a digest and without relocation the file stays, or its packet is exchanged
 pub patch_plan : (kept : Kept) (joined : Bool) (e : Edited) (plan : Plan) → e.digest ≡ None → IsPlanned kept joined true e (Ok plan) → (plan ≡ Same) ⊎ IsExchange kept.payload e plan
-patch_plan kept joined e plan fixed h = edited_plan kept.payload kept.container joined e plan fixed h
+patch_plan kept joined e plan fixed h = edited_plan kept.payload kept.container kept.portions joined e plan fixed h
 
 -- tests that fail in their second part
 no_second : (a : Bool) → (a && false) ≡ false

@@ -6,10 +6,15 @@ use Rattle.std.specs.declared.result.Result.{Result}
 use Rattle.std.proofs.lemmas.Bool.{and_parts, leb-true, ltb-false}
 use Rattle.xmp_values.specs.declared.faults.Fault.{Fault}
 use Rattle.xmp_packets.specs.Packets.{is_writable}
-use Rattle.xmp_files.specs.Faults.{packet_limit, over_packet, not_built}
+use Rattle.xmp_files.specs.Faults.{file_limit, packet_limit, over_packet, not_built}
 use Rattle.xmp_files.specs.Keeping.{Piece, Container, Text, Segments, Kept}
-use Rattle.xmp_files.specs.Planning.{Edited, Plan, Same, InPlace, Relocated}
-use Rattle.xmp_files.specs.Plans.{IsRelocation, OrRelocation, IsEdited, IsPlanned, packet_of, least_of, padding, stays, fits, fits_payload, exchanged, digest_pieces, whole_form, told, needs_relocation, room_of}
+use Rattle.xmp_base.specs.declared.file_span.FileSpan.{FileSpan}
+use Rattle.jpeg_regions.specs.Jpeg.{Region}
+use Rattle.jpeg_relocation.specs.declared.pictures.MovedPictures.{MovedPictures}
+use Rattle.jpeg_relocation.specs.NewSegments.{main_limit}
+use Rattle.jpeg_relocation.specs.Pictures.{moved_pictures}
+use Rattle.xmp_files.specs.Planning.{Edited, Part, New, parts_len, Plan, Same, InPlace, Relocated}
+use Rattle.xmp_files.specs.Plans.{IsRelocation, OrRelocation, IsEdited, IsPlanned, packet_of, least_of, padding, stays, fits, fits_payload, exchanged, digest_pieces, whole_form, told, needs_relocation, room_of, after_pictures, over_out, parts_around, unless_moved, segment_padded, segments_text, IsRelocated}
 use Rattle.xmp_files.proofs.PacketLengths.{length-packet}
 
 -- the packet of a plan that exchanges it
@@ -24,14 +29,22 @@ pub record IsExchange (payload : Option Piece) (e : Edited) (plan : Plan) : Type
 pub record IsAnew (container : Container) (e : Edited) (plan : Plan) : Type 0 where
   pub text : container ≡ Text
   pub within : least_of e + padding ≤ packet_limit
-  pub is : plan ≡ Relocated (packet_of e (least_of e + padding))
+  pub is : plan ≡ Relocated (New (packet_of e (least_of e + padding)) ∷ [])
+
+-- a JPEG file that is relocated, with the packet of the whole tree in a segment
+pub record IsAmong (container : Container) (portions : List FileSpan) (e : Edited) (plan : Plan) : Type 0 where
+  pub regions : List Region
+  pub segments : container ≡ Segments regions
+  pub fits : least_of e ≤ main_limit
+  pub is : plan ≡ Relocated (parts_around regions portions (segments_text (packet_of e (segment_padded (least_of e))) None))
+  pub within : parts_len (parts_around regions portions (segments_text (packet_of e (segment_padded (least_of e))) None)) ≤ file_limit
 
 -- The bytes stay, with no piece at all in a place of theirs, where the tree does; a tree that changes has its packet exchanged, or a new
 -- file.
-abbrev pub Becomes : Option Piece → Container → Edited → Plan → Type 0
-Becomes payload container e plan =
+abbrev pub Becomes : Option Piece → Container → List FileSpan → Edited → Plan → Type 0
+Becomes payload container portions e plan =
     ((e.new ≡ e.old) × ((plan ≡ Same) ⊎ (plan ≡ InPlace [])))
-    ⊎ ((e.new ≢ e.old) × (IsExchange payload e plan ⊎ IsAnew container e plan))
+    ⊎ ((e.new ≢ e.old) × (IsExchange payload e plan ⊎ (IsAnew container e plan ⊎ IsAmong container portions e plan)))
 
 pub no_digest : (container : Container) (digest : Option (List ℕ)) → digest_pieces container digest ≡ []
 no_digest Text digest = refl
@@ -59,33 +72,51 @@ exchange_of (Some old) container joined e plan fit is =
       writable = last.0;
     }
 
-anew_of : (container : Container) (e : Edited) (plan : Plan) → least_of e + padding ≤ packet_limit → IsRelocation container e (Ok plan) → IsAnew container e plan
-anew_of Text e plan within h = record { text = refl; within = within; is = let is : Ok plan ≡ Ok (Relocated (packet_of e (least_of e + padding))) = h in cc }
-anew_of (Segments regions) e plan within h = absurd (let bad : Ok plan ≡ Err not_built = h in cc)
+-- bytes that come among regions
+among_by : (over : Bool) (parts : List Part) (f : Fault) (plan : Plan) → nat_lt file_limit (parts_len parts) ≡ over → Ok plan ≡ (if over then Err f else Ok (Relocated parts))
+    → (parts_len parts ≤ file_limit) × (plan ≡ Relocated parts)
+among_by true parts f plan test h = absurd (cc h)
+among_by false parts f plan test h = (ltb-false file_limit (parts_len parts) test, let is : Ok plan ≡ Ok (Relocated parts) = h in cc)
+
+among_cases : (o : Option MovedPictures) (parts : List Part) (plan : Plan) → Ok plan ≡ unless_moved o parts → (parts_len parts ≤ file_limit) × (plan ≡ Relocated parts)
+among_cases (Some moved) parts plan h = absurd (let bad : Ok plan ≡ Err (after_pictures moved) = h in cc)
+among_cases None parts plan h = among_by (nat_lt file_limit (parts_len parts)) parts (over_out (told (parts_len parts))) plan refl h
+
+among_of : (regions : List Region) (portions : List FileSpan) (e : Edited) (plan : Plan) → IsRelocated regions portions e (Ok plan) → IsAmong (Segments regions) portions e plan
+among_of regions portions e plan (inl h) =
+    let new : List ℕ = segments_text (packet_of e (segment_padded (least_of e))) None in
+    let c = among_cases (moved_pictures portions regions (length new)) (parts_around regions portions new) plan h.1 in
+    record { regions = regions; segments = refl; fits = h.0; is = c.1; within = c.0 }
+among_of regions portions e plan (inr h) = absurd (let bad : Ok plan ≡ Err not_built = h.1 in cc)
+
+anew_of : (container : Container) (portions : List FileSpan) (e : Edited) (plan : Plan) → least_of e + padding ≤ packet_limit → IsRelocation container portions e (Ok plan)
+    → IsAnew container e plan ⊎ IsAmong container portions e plan
+anew_of Text portions e plan within h = inl (record { text = refl; within = within; is = let is : Ok plan ≡ Ok (Relocated (New (packet_of e (least_of e + padding)) ∷ [])) = h in cc })
+anew_of (Segments regions) portions e plan within h = inr (among_of regions portions e plan h)
 
 -- how a changed tree comes to a plan
-moved_cases : (over fit patch : Bool) (f g : Fault) (inside : Plan) (container : Container) (e : Edited) (plan : Plan)
-    → OrRelocation (if over then Some (Err f) else (if fit then Some (Ok inside) else (if patch then Some (Err g) else None))) container e (Ok plan)
-    → ((fit ≡ true) × (plan ≡ inside)) ⊎ ((over ≡ false) × IsRelocation container e (Ok plan))
-moved_cases true fit patch f g inside container e plan h = absurd (let bad : Ok plan ≡ Err f = h in cc)
-moved_cases false true patch f g inside container e plan h = inl (refl, let is : Ok plan ≡ Ok inside = h in cc)
-moved_cases false false true f g inside container e plan h = absurd (let bad : Ok plan ≡ Err g = h in cc)
-moved_cases false false false f g inside container e plan h = inr (refl, h)
+moved_cases : (over fit patch : Bool) (f g : Fault) (inside : Plan) (container : Container) (portions : List FileSpan) (e : Edited) (plan : Plan)
+    → OrRelocation (if over then Some (Err f) else (if fit then Some (Ok inside) else (if patch then Some (Err g) else None))) container portions e (Ok plan)
+    → ((fit ≡ true) × (plan ≡ inside)) ⊎ ((over ≡ false) × IsRelocation container portions e (Ok plan))
+moved_cases true fit patch f g inside container portions e plan h = absurd (let bad : Ok plan ≡ Err f = h in cc)
+moved_cases false true patch f g inside container portions e plan h = inl (refl, let is : Ok plan ≡ Ok inside = h in cc)
+moved_cases false false true f g inside container portions e plan h = absurd (let bad : Ok plan ≡ Err g = h in cc)
+moved_cases false false false f g inside container portions e plan h = inr (refl, h)
 
-edited_cases : (payload : Option Piece) (container : Container) (joined patch : Bool) (e : Edited) (plan : Plan) → IsEdited payload container joined patch e (Ok plan) → Becomes payload container e plan
-edited_cases payload container joined patch e plan (inl h) = inl (h.0, stays_as container e.digest plan (let is : Ok plan ≡ Ok (stays container e.digest) = h.1 in cc))
-edited_cases payload container joined patch e plan (inr h) =
+edited_cases : (payload : Option Piece) (container : Container) (portions : List FileSpan) (joined patch : Bool) (e : Edited) (plan : Plan) → IsEdited payload container portions joined patch e (Ok plan) → Becomes payload container portions e plan
+edited_cases payload container portions joined patch e plan (inl h) = inl (h.0, stays_as container e.digest plan (let is : Ok plan ≡ Ok (stays container e.digest) = h.1 in cc))
+edited_cases payload container portions joined patch e plan (inr h) =
     inr (
       h.0,
       by_case (moved_cases (nat_lt packet_limit (least_of e + padding)) (fits payload joined (least_of e)) patch (over_packet (told (least_of e + padding)))
-          (needs_relocation (told (least_of e)) (room_of payload)) (InPlace (exchanged payload e ++ digest_pieces container e.digest)) container e plan h.1),
+          (needs_relocation (told (least_of e)) (room_of payload)) (InPlace (exchanged payload e ++ digest_pieces container e.digest)) container portions e plan h.1),
     )
   where
     by_case : ((fits payload joined (least_of e) ≡ true) × (plan ≡ InPlace (exchanged payload e ++ digest_pieces container e.digest)))
-        ⊎ ((nat_lt packet_limit (least_of e + padding) ≡ false) × IsRelocation container e (Ok plan)) → IsExchange payload e plan ⊎ IsAnew container e plan
+        ⊎ ((nat_lt packet_limit (least_of e + padding) ≡ false) × IsRelocation container portions e (Ok plan)) → IsExchange payload e plan ⊎ (IsAnew container e plan ⊎ IsAmong container portions e plan)
     by_case (inl c) = inl (exchange_of payload container joined e plan c.0 c.1)
-    by_case (inr c) = inr (anew_of container e plan (ltb-false packet_limit (least_of e + padding) c.0) c.1)
+    by_case (inr c) = inr (anew_of container portions e plan (ltb-false packet_limit (least_of e + padding) c.0) c.1)
 
 -- what becomes of a file that has a plan
-pub planned_cases : (kept : Kept) (joined patch : Bool) (e : Edited) (plan : Plan) → IsPlanned kept joined patch e (Ok plan) → Becomes kept.payload kept.container e plan
-planned_cases kept joined patch e plan h = edited_cases kept.payload kept.container joined patch e plan h
+pub planned_cases : (kept : Kept) (joined patch : Bool) (e : Edited) (plan : Plan) → IsPlanned kept joined patch e (Ok plan) → Becomes kept.payload kept.container kept.portions e plan
+planned_cases kept joined patch e plan h = edited_cases kept.payload kept.container kept.portions joined patch e plan h

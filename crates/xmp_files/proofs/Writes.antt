@@ -1,8 +1,10 @@
 -- Whatever the plan, the new file holds the new tree.
-use Rattle.std.proofs.Common.{◌≡◌, ◌⊎◌, ℕ, ◌+◌, ◌<◌, ◌≤◌, List, [], ◌∷◌, length, Some, None, Ok, refl, inl, inr, arith, sym, ap, subst, ◌∙◌}
+use Rattle.std.proofs.Common.{◌≡◌, ◌⊎◌, ℕ, ◌+◌, ◌<◌, ◌≤◌, List, [], ◌∷◌, ◌++◌, length, Some, None, Ok, refl, inl, inr, arith, sym, ap, subst, ◌∙◌}
 use Rattle.std.specs.Prelude.{◌≢◌}
 use Rattle.std.specs.declared.option.Option.{Option}
+use Rattle.std.proofs.lemmas.List.{append-nil}
 use Rattle.xmp_base.specs.Device.{put_at}
+use Rattle.xmp_base.specs.declared.file_span.FileSpan.{FileSpan}
 use Rattle.xmp_packets.specs.Packets.{is_writable}
 use Rattle.xmp_write.specs.Prefixes.{prefixes}
 use Rattle.round_trip.specs.Law.{MayWrite, text_hints}
@@ -13,15 +15,19 @@ use Rattle.xmp_files.specs.Faults.{packet_limit}
 use Rattle.xmp_files.specs.Keeping.{Piece, Container, Text, Segments, Kept, sidecar}
 use Rattle.xmp_files.specs.Loading.{IsLoaded}
 use Rattle.xmp_files.specs.Opening.{HoldsTree}
-use Rattle.xmp_files.specs.Planning.{Edited, Plan, Same, InPlace, Relocated, Agree, Frame, KeepsPictures, planned_file}
-use Rattle.xmp_files.specs.Plans.{IsPlanned, packet_of, least_of, padding, whole_form}
+use Rattle.jpeg_regions.specs.Jpeg.{Jpeg as IsJpeg}
+use Rattle.jpeg_relocation.specs.NewSegments.{main_limit}
+use Rattle.jpeg_relocation.specs.Laws.{new_file}
+use Rattle.xmp_files.specs.Planning.{Edited, Plan, Same, InPlace, Relocated, Agree, Frame, KeepsPictures, parts_bytes, parts_len, planned_file}
+use Rattle.xmp_files.specs.Plans.{IsPlanned, packet_of, least_of, padding, whole_form, segment_padded, segments_text, parts_around}
 use Rattle.xmp_files.specs.Written.{FileIsWritten}
 use Rattle.xmp_files.proofs.Agreeing.{put_agrees}
 use Rattle.xmp_files.proofs.ExchangedPackets.{Stands, loaded_stands, same_piece, whole_piece}
 use Rattle.xmp_files.proofs.LoadedKept.{IsSidecarOf, IsPhotographOf, LoadedAs, loaded_as, loaded_small}
 use Rattle.xmp_files.proofs.OpenPackets.{writable_some}
 use Rattle.xmp_files.proofs.PacketLengths.{length-packet, over_all}
-use Rattle.xmp_files.proofs.PlanCases.{IsExchange, IsAnew, Becomes, planned_cases}
+use Rattle.xmp_files.proofs.PlanCases.{IsExchange, IsAnew, IsAmong, Becomes, planned_cases}
+use Rattle.xmp_files.proofs.RelocatedPhotographs.{around_bytes, around_len, relocated_holds, keeps_regions}
 use Rattle.xmp_files.proofs.WrittenPhotographs.{photograph_holds}
 use Rattle.xmp_files.proofs.WrittenSidecars.{sidecar_reads_back}
 
@@ -37,15 +43,17 @@ stays_good kept old e plan (inl is) holds = subst (Good kept old e) (sym is) (ho
 stays_good kept old e plan (inr is) holds = subst (Good kept old e) (sym is) (holds, same_bytes old [])
 
 -- a packet with padding is a whole new sidecar
-anew_frame : (container : Container) (old new : List ℕ) → container ≡ Text → KeepsPictures container old new
-anew_frame Text old new is = tt
-anew_frame (Segments regions) old new is = absurd (cc is)
+anew_frame : (container : Container) (portions : List FileSpan) (old new : List ℕ) → container ≡ Text → KeepsPictures container portions old new
+anew_frame Text portions old new is = tt
+anew_frame (Segments regions) portions old new is = absurd (cc is)
 
 anew_good : (kept : Kept) (old : List ℕ) (e : Edited) (plan : Plan) → MayWrite e.new e.hints (whole_form e.new) → IsAnew kept.container e plan → Good kept old e plan
 anew_good kept old e plan may x =
     let size = length-packet (prefixes e.new e.hints (whole_form e.new)) e.new (whole_form e.new) (least_of e + padding) (omega arith) in
-    subst (Good kept old e) (sym x.is)
-    (sidecar_reads_back e.new e.hints (least_of e + padding) may (omega (arith, size, x.within)), anew_frame kept.container old (packet_of e (least_of e + padding)) x.text)
+    subst (Good kept old e) (sym x.is) (
+      subst (λ (file : List ℕ). HoldsTree (Some file) e.new) (sym (append-nil (packet_of e (least_of e + padding)))) (sidecar_reads_back e.new e.hints (least_of e + padding) may (omega (arith, size, x.within))),
+      anew_frame kept.container kept.portions old (packet_of e (least_of e + padding) ++ []) x.text,
+    )
 
 -- The packet is exchanged.
 module _ (need : Need) (old : List ℕ) (kept : Kept) (e : Edited) (plan : Plan) (loaded : IsLoaded need (Some old) (Ok kept)) (may : MayWrite e.new e.hints (whole_form e.new))
@@ -84,10 +92,42 @@ module _ (need : Need) (old : List ℕ) (kept : Kept) (e : Edited) (plan : Plan)
       put_agrees old payload.at new (omega (arith, stands.within, x.as_long)) (record { at = payload.at; bytes = new }) refl refl in
       subst (Good kept old e) (sym x.is) (holds_by (loaded_as need old kept loaded), agrees)
 
+-- A JPEG file is relocated.
+module _ (need : Need) (old : List ℕ) (kept : Kept) (e : Edited) (plan : Plan) (loaded : IsLoaded need (Some old) (Ok kept)) (may : MayWrite e.new e.hints (whole_form e.new))
+    (x : IsAmong kept.container kept.portions e plan) where
+  abbrev among_packet : List ℕ
+  among_packet = packet_of e (segment_padded (least_of e))
+
+  limited : length among_packet ≤ main_limit
+  limited = let size = length-packet (prefixes e.new e.hints (whole_form e.new)) e.new (whole_form e.new) (segment_padded (least_of e)) (omega (arith, x.fits)) in omega (arith, size)
+
+  among_good : IsPhotographOf need old kept → Good kept old e plan
+  among_good p =
+      let same : x.regions ≡ p.is.regions = (let h : Segments x.regions ≡ Segments p.is.regions = sym x.segments ∙ ap (λ (k : Kept). k.container) p.is.is in cc) in
+      let jpeg : IsJpeg old x.regions = subst (IsJpeg old) (sym same) p.is.jpeg in
+      let is : parts_bytes old (parts_around x.regions kept.portions (segments_text among_packet None)) ≡ new_file old kept.portions x.regions among_packet None =
+      around_bytes old kept.portions x.regions among_packet jpeg.cuts in
+      let size : length (new_file old kept.portions x.regions among_packet None) ≡ parts_len (parts_around x.regions kept.portions (segments_text among_packet None)) =
+      ap length (sym is) ∙ around_len old kept.portions x.regions among_packet jpeg.cuts in
+      let holds : HoldsTree (Some (new_file old kept.portions x.regions among_packet None)) e.new =
+      relocated_holds old x.regions kept.portions jpeg among_packet limited (omega (arith, size, x.within)) (text_hints e.new e.hints (whole_form e.new)) e.new
+      (packet_reads_back e.new e.hints (segment_padded (least_of e)) may) in
+      subst (Good kept old e) (sym x.is)
+      (subst (λ (file : List ℕ). HoldsTree (Some file) e.new × KeepsPictures kept.container kept.portions old file) (sym is) (
+        holds,
+        subst (λ (c : Container). KeepsPictures c kept.portions old (new_file old kept.portions x.regions among_packet None)) (sym x.segments)
+            (keeps_regions old x.regions kept.portions jpeg among_packet limited),
+      ))
+
+  among_by : LoadedAs need old kept → Good kept old e plan
+  among_by (inl s) = absurd (let bad : Segments x.regions ≡ Text = sym x.segments ∙ ap (λ (k : Kept). k.container) s.is in cc bad)
+  among_by (inr p) = among_good p
+
 pub file_written : FileIsWritten
 file_written need old kept joined patch e plan loaded planned holds may = by_case (planned_cases kept joined patch e plan planned)
   where
-    by_case : Becomes kept.payload kept.container e plan → HoldsTree (Some (planned_file old plan)) e.new × Frame kept plan old (planned_file old plan)
+    by_case : Becomes kept.payload kept.container kept.portions e plan → HoldsTree (Some (planned_file old plan)) e.new × Frame kept plan old (planned_file old plan)
     by_case (inl h) = stays_good kept old e plan h.1 (subst (HoldsTree (Some old)) (sym h.0) holds)
     by_case (inr (differs, inl x)) = exchange_good need old kept e plan loaded (may differs) x
-    by_case (inr (differs, inr x)) = anew_good kept old e plan (may differs) x
+    by_case (inr (differs, inr (inl x))) = anew_good kept old e plan (may differs) x
+    by_case (inr (differs, inr (inr x))) = among_by need old kept e plan loaded (may differs) x (loaded_as need old kept loaded)

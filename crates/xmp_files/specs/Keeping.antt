@@ -24,10 +24,10 @@ pub data Container : Type 0 where
   Text : Container
   Segments : (regions : List Region) → Container
 
--- a JPEG file's container
-abbrev pub IsSegments : Container → Type 0
-IsSegments Text = ⊥
-IsSegments (Segments regions) = Unit {0}
+-- the regions of a JPEG file
+abbrev pub regions_in : Container → Option (List Region)
+regions_in Text = None
+regions_in (Segments regions) = Some regions
 
 pub record Kept : Type 0 where
   -- what was asked for

@@ -10,6 +10,7 @@ pub mod Sparing
 pub mod Opening
 pub mod Planning
 pub mod Plans
+pub mod NewFiles
 pub mod Planneds
 pub mod Emitting
 pub mod Loads

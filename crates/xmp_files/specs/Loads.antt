@@ -11,7 +11,8 @@ use Rattle.xmp_values.specs.declared.rules.Rule.{Rule}
 use Rattle.xmp_values.specs.declared.rules.Rule.TheVariants.{FileLimit, NotKnown, NotBuilt, XmpLimit}
 use Rattle.xmp_values.specs.Stops.{fault_at}
 use Rattle.xmp_values.specs.declared.faults.Part.TheVariants.{File}
-use Rattle.jpeg_regions.specs.Jpeg.{FaultIn}
+use Rattle.jpeg_regions.specs.Cutting.{Tiles}
+use Rattle.jpeg_regions.specs.Jpeg.{FaultIn, portion_payloads}
 use Rattle.xmp_values.specs.declared.stops.DeviceStop.{DeviceStop}
 use Rattle.xmp_values.specs.declared.stops.DeviceStop.TheVariants as cuts
 use Rattle.xmp_values.specs.declared.stops.FileStop.{FileStop}
@@ -20,14 +21,14 @@ use Rattle.xmp_files.specs.declared.kinds.Kind.{Kind}
 use Rattle.xmp_base.specs.declared.file_span.FileSpan.{FileSpan}
 use Rattle.jpeg_extended.specs.declared.from_desk.JoinStop.{JoinStop}
 use Rattle.jpeg_extended.specs.declared.from_desk.JoinStop.TheVariants as joins
-use Rattle.jpeg_extended.specs.FromDesk.{named_at, portions_at, head_range, InPayload, PayloadCalls}
+use Rattle.jpeg_extended.specs.FromDesk.{named_at, portions_at, head_range, ArePicked, InPayload, PayloadCalls}
 use Rattle.xmp_files.specs.declared.held.Need.{Need}
 use Rattle.xmp_files.specs.declared.held.Extended.{Extended}
 use Rattle.xmp_files.specs.declared.held.ExtendedText.{ExtendedText}
 use Rattle.xmp_files.specs.Faults.{no_file, file_limit, over_limit, not_known, not_built, packet_limit, over_packet}
 use Rattle.xmp_files.specs.Kinds.{kind_of}
 use Rattle.xmp_files.specs.Stages.{Followed}
-use Rattle.xmp_files.specs.Keeping.{Piece, Kept}
+use Rattle.xmp_files.specs.Keeping.{Piece, Container, Text, Segments, Kept}
 use Rattle.xmp_files.specs.Meanings.{IsNoteOf}
 use Rattle.xmp_files.specs.Photographs.{IsExtended, IsCut}
 use Rattle.xmp_files.specs.Loading.{known, kind_of_file, IsKept, IsLoaded}
@@ -105,6 +106,7 @@ pub record OfPortions (file note : List ℕ) (payloads : List FileSpan) (name : 
 pub record ExtendedCall (s t : DeskState) (name : List ℕ) (size : ℕ) (payloads : List FileSpan) (note : List ℕ) (result : Result ExtendedText FileStop) : Type 0 where
   pub calls : ReadInside s t name 0 size
   pub near : Told s.files (λ files. Told s.reads (λ reads. (more : List Moved) × (t.reads ≡ Some (reads ++ more)) × All (OfPortions (bytes_of files name) note payloads name) more))
+  pub among : IfOk result (λ text. ArePicked text.portions.items payloads)
   pub told : IfOk result (λ text. Told s.files (λ files. (text.portions.items ≡ named_at (bytes_of files name) note payloads)
       × IsExtended (portions_at (bytes_of files name) note text.portions.items) text.joined))
   pub fails : FailsOnly s t result
@@ -114,10 +116,16 @@ abbrev pub PayloadLies : ℕ → Option Piece → Type 0
 PayloadLies size None = Unit {0}
 PayloadLies size (Some payload) = (payload.at + length payload.bytes ≤ size) × (length payload.bytes ≤ packet_limit)
 
--- what is kept has the length of the file, in which its payload lies
+-- the regions of a JPEG file tile it, and the portions of the extended text are some of its
+abbrev pub ContainerLies : ℕ → Container → List FileSpan → Type 0
+ContainerLies size Text portions = Unit {0}
+ContainerLies size (Segments regions) portions = Tiles 2 size regions × ArePicked portions (portion_payloads regions)
+
+-- what is kept has the length of the file, in which its payload and its regions lie
 pub record IsOfSize (size : ℕ) (kept : Kept) : Type 0 where
   pub whole : kept.size ≡ size
   pub payload : PayloadLies size kept.payload
+  pub container : ContainerLies size kept.container kept.portions
 
 -- A JPEG file of this length was kept, whose regions and packet are known.
 pub record KeptCall (need : Need) (s t : DeskState) (name : List ℕ) (size : ℕ) (result : Result Kept FileStop) : Type 0 where

@@ -4,22 +4,33 @@ use Rattle.std.specs.declared.result.Result.{Result}
 use Rattle.xmp_values.specs.declared.stops.FaultStop.{FaultStop}
 use Rattle.xmp_values.specs.Stops.{fault_of, Answers}
 use Rattle.xmp_files.specs.declared.plans.Exchange.{Exchange}
-use Rattle.xmp_files.specs.declared.plans.Exchange.TheVariants.{Nothing, Inside, Whole}
+use Rattle.xmp_files.specs.declared.plans.Exchange.TheVariants.{Nothing, Inside, Anew}
 use Rattle.xmp_files.specs.declared.plans.Outcome.{Outcome}
 use Rattle.xmp_files.specs.declared.plans.Outcome.TheVariants as outcomes
 use Rattle.xmp_files.specs.Keeping.{Piece, Container, Kept}
+use Rattle.xmp_base.specs.declared.file_span.FileSpan.{FileSpan}
+use Rattle.xmp_files.specs.declared.parts.NewFile.{NewFile}
+use Rattle.xmp_files.specs.NewFiles.{parts_at, NewLies}
 use Rattle.xmp_files.specs.Planning.{Edited, Plan, Same, InPlace, Relocated}
-use Rattle.xmp_files.specs.Plans.{IsPlanned, IsMoved}
+use Rattle.jpeg_regions.specs.Jpeg.{Region}
+use Rattle.xmp_values.specs.declared.faults.Fault.{Fault}
+use Rattle.xmp_files.specs.Plans.{IsPlanned, IsMoved, put_among}
 
 abbrev pub plan_of : Exchange → Plan
 plan_of Nothing = Same
 plan_of (Inside at bytes) = InPlace (record { at = at; bytes = bytes } ∷ [])
-plan_of (Whole bytes) = Relocated bytes
+plan_of (Anew new) = Relocated (parts_at new.bytes new.parts.items)
 
 abbrev pub outcome_of : Plan → Outcome
 outcome_of Same = outcomes.Same
 outcome_of (InPlace pieces) = outcomes.InPlace
-outcome_of (Relocated file) = outcomes.Relocated
+outcome_of (Relocated parts) = outcomes.Relocated
+
+-- a new file is made of ranges of the old one of this length, and of its own bytes
+abbrev pub ExchangeLies : ℕ → Exchange → Type 0
+ExchangeLies size Nothing = Unit {0}
+ExchangeLies size (Inside at bytes) = Unit {0}
+ExchangeLies size (Anew new) = NewLies size new
 
 -- a plan, and the length of the old file
 pub record PlannedFile : Type 0 where
@@ -32,18 +43,34 @@ PlanAnswer kept joined patch e result =
     Answers fault_of result (λ planned. IsPlanned kept joined patch e (Ok planned.plan) × (planned.size ≡ kept.size)) (λ fault. IsPlanned kept joined patch e (Err fault))
 
 -- what a changed tree makes of a file is a step
-abbrev pub MoveAnswer : Option Piece → Container → Bool → Bool → Edited → Result Exchange FaultStop → Type 0
-MoveAnswer payload container joined patch e result =
-    Answers fault_of result (λ exchange. IsMoved payload container joined patch e (Ok (plan_of exchange))) (λ fault. IsMoved payload container joined patch e (Err fault))
+abbrev pub MoveAnswer : Option Piece → Container → List FileSpan → Bool → Bool → Edited → Result Exchange FaultStop → Type 0
+MoveAnswer payload container portions joined patch e result =
+    Answers fault_of result (λ exchange. IsMoved payload container portions joined patch e (Ok (plan_of exchange))) (λ fault. IsMoved payload container portions joined patch e (Err fault))
+
+-- new bytes among the regions of a JPEG file are what the definition says; want of memory is free
+abbrev pub AmongAnswer : List Region → List FileSpan → List ℕ → Result Exchange FaultStop → Type 0
+AmongAnswer regions joined new result =
+    Answers fault_of result (λ exchange. Ok (plan_of exchange) ≡ put_among regions joined new) (λ fault. Err fault ≡ put_among regions joined new)
 
 -- the bytes of a payload, none without one
 abbrev pub bytes_in : Option Piece → List ℕ
 bytes_in None = []
 bytes_in (Some payload) = payload.bytes
 
--- the packet of a plan, of which there is at most one piece
+-- the packet of a plan that writes no new file, of which there is at most one piece
 abbrev pub new_packet : Option Piece → Plan → List ℕ
 new_packet payload Same = bytes_in payload
 new_packet payload (InPlace []) = bytes_in payload
 new_packet payload (InPlace (p ∷ ps)) = p.bytes
-new_packet payload (Relocated file) = file
+new_packet payload (Relocated parts) = bytes_in payload
+
+-- a plan that writes no new file
+abbrev pub IsNear : Plan → Type 0
+IsNear Same = Unit {0}
+IsNear (InPlace pieces) = Unit {0}
+IsNear (Relocated parts) = ⊥
+
+-- what is kept of a new file; none where none is written
+abbrev pub IsNewFile : ℕ → Plan → Option NewFile → Type 0
+IsNewFile size plan None = IsNear plan
+IsNewFile size plan (Some new) = (plan ≡ Relocated (parts_at new.bytes new.parts.items)) × NewLies size new

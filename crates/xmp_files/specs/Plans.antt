@@ -1,17 +1,24 @@
 -- What becomes of a file whose tree was edited: the steps of the one order after the edits.
-use Rattle.std.specs.Prelude.{◌≡◌, ◌≢◌, ◌⊎◌, ℕ, ◌+◌, ◌^◌, ◌-◌, min, nat_lt, nat_le, Bool, not, ◌&&◌, if◌then◌else◌, List, [], ◌∷◌, ◌++◌, length, Option, None, Some, Ok, Err, false}
+use Rattle.std.specs.Prelude.{◌≡◌, ◌≢◌, ◌⊎◌, ℕ, ◌+◌, ◌^◌, ◌-◌, ◌≤◌, ◌<◌, min, nat_lt, nat_le, Bool, not, ◌&&◌, if◌then◌else◌, List, [], ◌∷◌, ◌++◌, length, map, flat_map, Option, None, Some, Ok, Err, false}
 use Rattle.std.specs.declared.result.Result.{Result}
 use Rattle.xmp_values.specs.declared.faults.Fault.{Fault}
-use Rattle.xmp_values.specs.declared.faults.Part.TheVariants.{Main}
-use Rattle.xmp_values.specs.declared.rules.Rule.TheVariants.{NeedsRelocation}
+use Rattle.xmp_values.specs.declared.faults.Part.TheVariants.{File, Main}
+use Rattle.xmp_values.specs.declared.rules.Rule.TheVariants.{NeedsRelocation, AfterMultiPicture, OutLimit}
+use Rattle.xmp_base.specs.declared.file_span.FileSpan.{FileSpan}
+use Rattle.jpeg_regions.specs.Jpeg.{Region, text, span}
+use Rattle.jpeg_relocation.specs.declared.pictures.MovedPictures.{MovedPictures}
+use Rattle.jpeg_relocation.specs.Relocation.{before, after}
+use Rattle.jpeg_relocation.specs.Runs.{runs}
+use Rattle.jpeg_relocation.specs.Pictures.{moved_pictures}
+use Rattle.jpeg_relocation.specs.NewSegments.{main_limit, new_segments}
 use Rattle.xmp_tree.specs.Parts.{Parts}
 use Rattle.xmp_packets.specs.Packets.{is_writable}
 use Rattle.xmp_write.specs.declared.forms.Form.{Form}
 use Rattle.xmp_write.specs.Prefixes.{prefixes}
 use Rattle.xmp_write.specs.WrittenPackets.{least_len, canonical_packet}
-use Rattle.xmp_files.specs.Faults.{packet_limit, over_packet, not_built}
+use Rattle.xmp_files.specs.Faults.{file_limit, packet_limit, over_packet, not_built}
 use Rattle.xmp_files.specs.Keeping.{Piece, Container, Text, Segments, Kept}
-use Rattle.xmp_files.specs.Planning.{Edited, Plan, Same, InPlace, Relocated}
+use Rattle.xmp_files.specs.Planning.{Edited, Part, Old, New, parts_len, Plan, Same, InPlace, Relocated}
 
 -- every property, and no note
 abbrev pub whole_form : Parts → Form
@@ -76,19 +83,56 @@ unmoved payload container joined patch e =
     else (if fits payload joined (least_of e) then Some (Ok (InPlace (exchanged payload e ++ digest_pieces container e.digest)))
     else (if patch then Some (Err (needs_relocation (told (least_of e)) (room_of payload))) else None))
 
--- The file that has the new packet in another place, or the first fault. A sidecar is nothing but its packet, and no JPEG file is relocated
--- yet.
-abbrev pub IsRelocation : Container → Edited → Result Plan Fault → Type 0
-IsRelocation Text e step = step ≡ Ok (Relocated (packet_of e (least_of e + padding)))
-IsRelocation (Segments regions) e step = step ≡ Err not_built
+-- the index of a multi-picture file tells places that a relocation would move
+abbrev pub after_pictures : MovedPictures → Fault
+after_pictures moved = record { rule = AfterMultiPicture; place = record { part = File; at = moved.start }; x = moved.old; y = moved.new }
 
-abbrev pub OrRelocation : Option (Result Plan Fault) → Container → Edited → Result Plan Fault → Type 0
-OrRelocation (Some known) container e step = step ≡ known
-OrRelocation None container e step = IsRelocation container e step
+-- the new file is longer than the limit of a file
+abbrev pub over_out : ℕ → Fault
+over_out size = record { rule = OutLimit; place = record { part = File; at = 0 }; x = size; y = file_limit }
 
--- what becomes of a file whose tree changes
-abbrev pub IsMoved : Option Piece → Container → Bool → Bool → Edited → Result Plan Fault → Type 0
-IsMoved payload container joined patch e step = OrRelocation (unmoved payload container joined patch e) container e step
+-- the parts of a relocated JPEG file: FF D8, what stands before the place, the new segments, and what stands after it
+abbrev pub parts_around : List Region → List FileSpan → List ℕ → List Part
+parts_around regions joined new =
+    (Old (span 0 2) ∷ map (λ r. Old r) (runs (before joined regions))) ++ (New new ∷ map (λ r. Old r) (runs (after joined regions)))
+
+abbrev pub within_out : List Part → Result Plan Fault
+within_out parts = if nat_lt file_limit (parts_len parts) then Err (over_out (told (parts_len parts))) else Ok (Relocated parts)
+
+abbrev pub unless_moved : Option MovedPictures → List Part → Result Plan Fault
+unless_moved (Some moved) parts = Err (after_pictures moved)
+unless_moved None parts = within_out parts
+
+-- new bytes among the regions of a JPEG file, or why they don't come there
+abbrev pub put_among : List Region → List FileSpan → List ℕ → Result Plan Fault
+put_among regions joined new = unless_moved (moved_pictures joined regions (length new)) (parts_around regions joined new)
+
+-- the packet of a segment of its own is padded as far as the segment permits
+abbrev pub segment_padded : ℕ → ℕ
+segment_padded least = min (least + padding) main_limit
+
+-- the bytes of the segments that are written
+abbrev pub segments_text : List ℕ → Option (List ℕ) → List ℕ
+segments_text packet extended = flat_map text (new_segments packet extended)
+
+-- The packet of the whole tree stands in a segment. A tree that is too long for that would be split, which isn't built yet.
+abbrev pub IsRelocated : List Region → List FileSpan → Edited → Result Plan Fault → Type 0
+IsRelocated regions joined e step =
+    ((least_of e ≤ main_limit) × (step ≡ put_among regions joined (segments_text (packet_of e (segment_padded (least_of e))) None)))
+    ⊎ ((main_limit < least_of e) × (step ≡ Err not_built))
+
+-- The file that has the new packet in another place, or the first fault. A sidecar is nothing but its packet.
+abbrev pub IsRelocation : Container → List FileSpan → Edited → Result Plan Fault → Type 0
+IsRelocation Text joined e step = step ≡ Ok (Relocated (New (packet_of e (least_of e + padding)) ∷ []))
+IsRelocation (Segments regions) joined e step = IsRelocated regions joined e step
+
+abbrev pub OrRelocation : Option (Result Plan Fault) → Container → List FileSpan → Edited → Result Plan Fault → Type 0
+OrRelocation (Some known) container portions e step = step ≡ known
+OrRelocation None container portions e step = IsRelocation container portions e step
+
+-- what becomes of a file whose tree changes; `portions` are those of the extended text, if one was joined
+abbrev pub IsMoved : Option Piece → Container → List FileSpan → Bool → Bool → Edited → Result Plan Fault → Type 0
+IsMoved payload container portions joined patch e step = OrRelocation (unmoved payload container joined patch e) container portions e step
 
 -- a tree that stays: nothing changes but a digest that is renewed
 abbrev pub stays : Container → Option (List ℕ) → Plan
@@ -96,17 +140,17 @@ stays container None = Same
 stays container (Some digest) = InPlace (digest_pieces container (Some digest))
 
 -- what becomes of a file, by its payload and how it is made up
-abbrev pub IsEdited : Option Piece → Container → Bool → Bool → Edited → Result Plan Fault → Type 0
-IsEdited payload container joined patch e step =
+abbrev pub IsEdited : Option Piece → Container → List FileSpan → Bool → Bool → Edited → Result Plan Fault → Type 0
+IsEdited payload container portions joined patch e step =
     ((e.new ≡ e.old) × (step ≡ Ok (stays container e.digest)))
-    ⊎ ((e.new ≢ e.old) × IsMoved payload container joined patch e step)
+    ⊎ ((e.new ≢ e.old) × IsMoved payload container portions joined patch e step)
 
 -- what becomes of the file; `joined` says that an extended text was read, and `patch` that the file may not be written anew
 abbrev pub IsPlanned : Kept → Bool → Bool → Edited → Result Plan Fault → Type 0
-IsPlanned kept joined patch e step = IsEdited kept.payload kept.container joined patch e step
+IsPlanned kept joined patch e step = IsEdited kept.payload kept.container kept.portions joined patch e step
 
 -- the length of the new file
 abbrev pub planned_len : ℕ → Plan → ℕ
 planned_len size Same = size
 planned_len size (InPlace pieces) = size
-planned_len size (Relocated file) = length file
+planned_len size (Relocated parts) = parts_len parts

@@ -1,12 +1,16 @@
 //! Writing the new file.
-ghost use Rattle.std.specs.Prelude.{◌≡◌, ◌≢◌, ◌+◌, ◌-◌, ◌<◌, ◌≤◌, ◌^◌, length, IsTrue, Ok, Some};
+ghost use Rattle.std.specs.Prelude.{◌≡◌, ◌≢◌, ◌+◌, ◌<◌, ◌≤◌, ◌^◌, All, length, IsTrue, Ok, Some};
 ghost use Rattle.std.specs.FinMap.{get};
 ghost use Rattle.xmp_base.specs.Device.{Told, is_known, len_of};
 ghost use Rattle.xmp_files.specs.Loading.{IsLoaded};
 ghost use Rattle.xmp_files.specs.Loads.{IsOfSize};
-ghost use Rattle.xmp_files.specs.Emitting.{EmitCall, IsPlanFor, PiecesCall, SplicedCall, most_piece};
+ghost use Rattle.xmp_files.specs.NewFiles.{part_at, parts_at, PartLies};
+ghost use Rattle.xmp_files.specs.Planning.{part_len, parts_len};
+ghost use Rattle.xmp_files.specs.Planneds.{IsNear};
+ghost use Rattle.xmp_files.specs.Emitting.{EmitCall, IsPlanFor, near_parts, PartCall, PartsCall, PiecesCall, most_piece};
 
 use crate::held::Held;
+use crate::parts::{FilePart, spliced};
 use crate::plans::Planned;
 use xmp_base::{Desk, Failed, append, copy_range};
 
@@ -14,7 +18,7 @@ use xmp_base::{Desk, Failed, append, copy_range};
 const PIECE: usize = 65536;
 
 /// Writes the file of a plan to the name `to`, whatever was there. `from` is the file that was loaded and
-/// planned for: what stands before its packet and after it is copied. It takes no memory.
+/// planned for: what stays of it is copied. It takes no memory.
 ///
 /// # Errors
 /// `Failed` after a failure that the desk counted. Nothing was written then, or the file holds a prefix of the
@@ -31,51 +35,107 @@ pub fn emit<D: Desk>(
     requires known { get (D.state desk.old).lens from.now ≡ Some held.now.size }
     requires lies { IsOfSize held.now.size held.now }
     requires planned { IsPlanFor held.now plan.now.plan }
+    requires sized { plan.now.size ≡ held.now.size }
     ensures call { EmitCall (D.state desk.old) (D.state desk.new) plan.now.plan held.now.size from.now to.now result }
+{
+    let mut buffer = [0; PIECE];
+    desk.create(to)?;
+    match plan.new_file() {
+        Some(new) => {
+            // The length of the new file is a number of 64 bits.
+            let _ = plan.new_len();
+            let bytes = new.bytes.as_slice();
+            put_parts(desk, from, to, new.parts.as_slice(), bytes, &mut buffer)
+        }
+        None => put_near(desk, held, plan, from, to, &mut buffer),
+    }
+}
+
+/// Puts the file of a plan that writes none anew into an empty one: the old one with its payload exchanged.
+fn put_near<D: Desk>(
+    desk: &mut D,
+    held: &Held,
+    plan: &Planned,
+    from: &str,
+    to: &str,
+    buffer: &mut [u8],
+) -> Result<(), Failed>
+    requires apart { from.now ≢ to.now }
+    requires source { get (D.state desk.old).lens from.now ≡ Some held.now.size }
+    requires target { IsTrue (is_known (D.state desk.old) to.now) }
+    requires at_end { len_of (D.state desk.old) to.now ≡ 0 }
+    requires lies { IsOfSize held.now.size held.now }
+    requires planned { IsPlanFor held.now plan.now.plan }
+    requires near { IsNear plan.now.plan }
+    requires some { 0 < length buffer.old }
+    requires small { length buffer.old ≤ most_piece }
+    ensures call { PartsCall (D.state desk.old) (D.state desk.new) from.now to.now (near_parts held.now.payload plan.now.plan held.now.size) result }
 {
     let size = held.size();
     let at = held.payload_place();
     let rest = at + held.payload_len() as u64;
     let bytes = plan.bytes(held);
-    let mut buffer = [0; PIECE];
-    desk.create(to)?;
-    put_spliced(desk, from, to, at, bytes, rest, size, &mut buffer)
+    let parts = spliced(at, bytes.len() as u64, rest, size);
+    put_parts(desk, from, to, &parts, bytes, buffer)
 }
 
-/// Puts a file of `size` bytes into an empty one, with the bytes from `at` up to `rest` exchanged for these.
-fn put_spliced<D: Desk>(
+/// Puts the parts of a new file into an empty one.
+fn put_parts<D: Desk>(
     desk: &mut D,
     from: &str,
     to: &str,
-    at: u64,
+    parts: &[FilePart],
     bytes: &[u8],
-    rest: u64,
-    size: u64,
     buffer: &mut [u8],
 ) -> Result<(), Failed>
     requires apart { from.now ≢ to.now }
     requires source { IsTrue (is_known (D.state desk.old) from.now) }
-    requires whole { len_of (D.state desk.old) from.now ≡ size }
     requires target { IsTrue (is_known (D.state desk.old) to.now) }
     requires at_end { len_of (D.state desk.old) to.now ≡ 0 }
-    requires order { at ≤ rest }
-    requires within { rest ≤ size }
-    requires room { at + length bytes.now + (size - rest) < 2 ^ 64 }
+    requires inside { All (PartLies (len_of (D.state desk.old) from.now) (length bytes.now)) parts.now }
+    requires room { parts_len (parts_at bytes.now parts.now) < 2 ^ 64 }
     requires some { 0 < length buffer.old }
     requires small { length buffer.old ≤ most_piece }
-    ensures call { SplicedCall (D.state desk.old) (D.state desk.new) from.now to.now at bytes.now rest size result }
+    ensures call { PartsCall (D.state desk.old) (D.state desk.new) from.now to.now (parts_at bytes.now parts.now) result }
 {
-    copy_range(desk, from, 0, at, to, 0, buffer)?;
-    put_pieces(desk, to, at, bytes)?;
-    copy_range(
-        desk,
-        from,
-        rest,
-        size - rest,
-        to,
-        at + bytes.len() as u64,
-        buffer,
-    )
+    let mut end = 0;
+    for part in parts {
+        put_part(desk, from, to, end, *part, bytes, buffer)?;
+        end += part.len();
+    }
+    Ok(())
+}
+
+/// Puts a part of a new file at its end.
+fn put_part<D: Desk>(
+    desk: &mut D,
+    from: &str,
+    to: &str,
+    end: u64,
+    part: FilePart,
+    bytes: &[u8],
+    buffer: &mut [u8],
+) -> Result<(), Failed>
+    requires apart { from.now ≢ to.now }
+    requires source { IsTrue (is_known (D.state desk.old) from.now) }
+    requires target { IsTrue (is_known (D.state desk.old) to.now) }
+    requires at_end { len_of (D.state desk.old) to.now ≡ end }
+    requires inside { PartLies (len_of (D.state desk.old) from.now) (length bytes.now) part }
+    requires room { end + part_len (part_at bytes.now part) < 2 ^ 64 }
+    requires some { 0 < length buffer.old }
+    requires small { length buffer.old ≤ most_piece }
+    ensures call { PartCall (D.state desk.old) (D.state desk.new) from.now to.now (part_at bytes.now part) result }
+{
+    match part {
+        FilePart::Old(range) => {
+            let len = range.end - range.start;
+            copy_range(desk, from, range.start, len, to, end, buffer)
+        }
+        FilePart::New(range) => {
+            let piece = &bytes[range.start as usize..range.end as usize];
+            put_pieces(desk, to, end, piece)
+        }
+    }
 }
 
 /// Puts bytes at the end of a file, piece by piece.

@@ -1,10 +1,9 @@
 //! What is kept of a file that was read.
 ghost use Rattle.std.specs.Prelude.{◌≡◌};
-ghost use Rattle.std.specs.Bool.{OnTrue, OnFalse};
 ghost use Rattle.std.specs.Option.{option_copied, option_map};
 ghost use Rattle.jpeg_regions.specs.Jpeg.{Region};
 ghost use Rattle.xmp_packets.specs.Packets.{packet_text};
-ghost use Rattle.xmp_files.specs.Keeping.{sidecar, photograph, Text, IsSegments};
+ghost use Rattle.xmp_files.specs.Keeping.{sidecar, photograph, regions_in};
 ghost use Rattle.xmp_files.specs.Helds.{piece_of};
 ghost use Rattle.xmp_files.specs.Plans.{place_of, room_of};
 ghost use Rattle.xmp_files.specs.Planneds.{bytes_in};
@@ -114,14 +113,23 @@ impl Held {
         }
     }
 
-    /// Whether the file is nothing but its packet.
-    pub(crate) fn is_sidecar(&self) -> bool
-        ensures yes { OnTrue result (self.now.container ≡ Text) }
-        ensures no { OnFalse result (IsSegments self.now.container) }
+    /// The regions of a JPEG file; none of a sidecar.
+    pub(crate) fn regions(&self) -> Option<&Regions>
+        ensures { option_copied result ≡ regions_in self.now.container }
     {
         match &self.contents {
-            Contents::Sidecar(_) => true,
-            Contents::Photograph(..) => false,
+            Contents::Sidecar(_) => None,
+            Contents::Photograph(_, regions, _, _) => Some(regions),
+        }
+    }
+
+    /// Where the payloads of the portions of the extended text stand, in the order of the file.
+    pub(crate) fn portions(&self) -> &[FileSpan]
+        ensures { result.now ≡ self.now.portions }
+    {
+        match &self.contents {
+            Contents::Sidecar(_) => &[],
+            Contents::Photograph(_, _, _, text) => text.portions.as_slice(),
         }
     }
 
@@ -167,10 +175,9 @@ impl Held {
         }
     }
 
-    /// The bytes of the main packet, none without one. They are the whole of a sidecar.
+    /// The bytes of the main packet, none without one.
     pub(crate) fn packet(&self) -> &[u8]
-        ensures bytes { result.now ≡ bytes_in self.now.payload }
-        ensures sidecar { self.now.container ≡ Text → self.now ≡ sidecar self.now.need result.now }
+        ensures { result.now ≡ bytes_in self.now.payload }
     {
         match &self.contents {
             Contents::Sidecar(bytes) => bytes.as_slice(),

@@ -17,9 +17,11 @@ mod laws;
 mod loading;
 mod meanings;
 mod opening;
+mod parts;
 mod patching;
 mod photographs;
 mod plans;
+mod relocating;
 
 pub use emitting::emit;
 pub use faults::{no_file, not_built};

@@ -5,14 +5,16 @@ ghost use Rattle.xmp_write.specs.Prefixes.{prefixes};
 ghost use Rattle.xmp_write.specs.WrittenPackets.{least_len, packet};
 ghost use Rattle.round_trip.specs.Law.{MayWrite};
 ghost use Rattle.xmp_files.specs.Plans.{room_of, put_over, told, fits, planned_len, needs_relocation, whole_form};
-ghost use Rattle.xmp_files.specs.Planneds.{plan_of, outcome_of, MoveAnswer, PlanAnswer, bytes_in, new_packet};
-ghost use Rattle.xmp_files.specs.Keeping.{sidecar, Text};
+ghost use Rattle.xmp_files.specs.Planneds.{plan_of, outcome_of, ExchangeLies, IsNewFile, MoveAnswer, PlanAnswer, new_packet};
+ghost use Rattle.xmp_files.specs.Loads.{IsOfSize};
 ghost use Rattle.xmp_files.specs.Patching.{new_payload};
 ghost use Rattle.std.specs.Option.{option_copied};
 
 use crate::faults::{PACKET_LIMIT, not_built, over_packet};
 use crate::held::Held;
 use crate::opening::Opened;
+use crate::parts::{NewFile, whole_file};
+use crate::relocating::{SEGMENT_LIMIT, with_packet};
 use std::alloc::Global;
 use std::marker::Model;
 use xmp_packets::Packet;
@@ -37,8 +39,8 @@ pub enum Exchange {
     Nothing,
     /// These bytes from this place of the file on, for as many.
     Inside(u64, Bytes),
-    /// A whole file.
-    Whole(Bytes),
+    /// A new file.
+    Anew(NewFile),
 }
 
 /// A plan for a file, with all new bytes. Contracts see the plan and the old file's length.
@@ -49,11 +51,13 @@ pub struct Planned {
 }
 
 impl Model for Planned {
-    ghost use Rattle.xmp_files.specs.Planneds.{PlannedFile, plan_of};
+    ghost use Rattle.xmp_files.specs.Planneds.{ExchangeLies, PlannedFile, plan_of};
 
     ghost Value = { PlannedFile };
 
     ghost view = { λ p. record { plan = plan_of p.exchange; size = p.old_len } };
+
+    ghost invariant = { λ p. ExchangeLies p.old_len p.exchange };
 }
 
 impl Planned {
@@ -64,7 +68,7 @@ impl Planned {
         match self.exchange {
             Exchange::Nothing => Outcome::Same,
             Exchange::Inside(..) => Outcome::InPlace,
-            Exchange::Whole(..) => Outcome::Relocated,
+            Exchange::Anew(..) => Outcome::Relocated,
         }
     }
 
@@ -81,7 +85,7 @@ impl Planned {
     {
         match &self.exchange {
             Exchange::Nothing | Exchange::Inside(..) => self.old_len,
-            Exchange::Whole(file) => file.len() as u64,
+            Exchange::Anew(new) => new.len,
         }
     }
 
@@ -91,25 +95,33 @@ impl Planned {
     {
         match &self.exchange {
             Exchange::Inside(_, bytes) => Some(bytes.as_slice()),
-            Exchange::Nothing | Exchange::Whole(_) => None,
+            Exchange::Nothing | Exchange::Anew(..) => None,
         }
     }
 
-    /// The packet of the new file: the new one, or the old one where it stays.
-    pub(crate) fn bytes<'a>(&'a self, held: &'a Held) -> &'a [u8]
-        ensures bytes { result.now ≡ new_packet held.now.payload self.now.plan }
-        ensures sidecar { held.now.container ≡ Text → held.now ≡ sidecar held.now.need (bytes_in held.now.payload) }
+    /// The new file of a plan that writes one.
+    pub(crate) fn new_file(&self) -> Option<&NewFile>
+        ensures { IsNewFile self.now.size self.now.plan (option_copied result) }
     {
-        let old = held.packet();
         match &self.exchange {
-            Exchange::Nothing => old,
-            Exchange::Inside(_, bytes) | Exchange::Whole(bytes) => bytes.as_slice(),
+            Exchange::Nothing | Exchange::Inside(..) => None,
+            Exchange::Anew(new) => Some(new),
+        }
+    }
+
+    /// The packet of a plan that writes no new file: the new one, or the old one where it stays.
+    pub(crate) fn bytes<'a>(&'a self, held: &'a Held) -> &'a [u8]
+        ensures { result.now ≡ new_packet held.now.payload self.now.plan }
+    {
+        match &self.exchange {
+            Exchange::Nothing | Exchange::Anew(_) => held.packet(),
+            Exchange::Inside(_, bytes) => bytes.as_slice(),
         }
     }
 }
 
 /// The bytes of padding of a packet that is put in another place, so that the next edit fits.
-const PADDING: u64 = 2048;
+pub const PADDING: u64 = 2048;
 
 /// The bytes of a packet's header and trailer.
 const WRAPPER: u64 = 73;
@@ -186,7 +198,7 @@ fn count_of(hints: &[Hint], prefixes: &[Hint]) -> usize
 }
 
 /// What becomes of a file whose tree changes: the new packet stands in the place of the old one where it fits,
-/// else a sidecar is written anew. No JPEG file is relocated yet.
+/// else the file is written anew.
 #[tactic(auto, using(crate::proofs::Placing::placed))]
 fn change_of(
     alloc: Global,
@@ -196,9 +208,11 @@ fn change_of(
     hints: &Hints,
     patch: bool,
 ) -> Result<Exchange, FaultStop>
-    ensures step { (old : Parts) → MoveAnswer held.now.payload held.now.container joined patch (record { old = old; new = tree.now; hints = hints.now; digest = None }) result }
+    requires lies { IsOfSize held.now.size held.now }
+    ensures step { (old : Parts) → MoveAnswer held.now.payload held.now.container held.now.portions joined patch (record { old = old; new = tree.now; hints = hints.now; digest = None }) result }
     // the text that was written is one that is read back
     ensures written { IfOk result (λ _. MayWrite tree.now hints.now (whole_form tree.now)) }
+    ensures lies { IfOk result (ExchangeLies held.now.size) }
 {
     let _props = &tree.props;
     let form = Form::whole(tree);
@@ -215,17 +229,33 @@ fn change_of(
     if patch {
         return Err(FaultStop::Fault(needs_relocation(least, held.payload_len())));
     }
-    if held.is_sidecar() {
-        return Ok(Exchange::Whole(packet(alloc, tree, &prefixes, &form, padded as usize)?));
+    let Some(regions) = held.regions() else {
+        let bytes = packet(alloc, tree, &prefixes, &form, padded as usize)?;
+        return Ok(Exchange::Anew(whole_file(alloc, bytes)?));
+    };
+    if least > SEGMENT_LIMIT {
+        return Err(FaultStop::Fault(not_built()));
     }
-    Err(FaultStop::Fault(not_built()))
+    let portions = held.portions();
+    with_packet(
+        alloc,
+        held.size(),
+        regions,
+        portions,
+        tree,
+        &prefixes,
+        &form,
+        least,
+    )
 }
 
 /// What becomes of a file whose tree is to be `tree`, with all hints of its text. With `patch` the file may be
-/// changed inside its packet alone. JPEG files aren't relocated yet.
+/// changed inside its packet alone. A JPEG file isn't relocated yet where the packet of the tree is too long for a
+/// segment.
 ///
 /// # Errors
-/// The first fault of the steps after the edits: XmpLimit of the new text, then NeedsRelocation with `patch`.
+/// The first fault of the steps after the edits: XmpLimit of the new text, then NeedsRelocation with `patch`, and of a
+/// JPEG file AfterMultiPicture and OutLimit.
 #[tactic(auto, using(crate::proofs::Placing::stops_planned))]
 pub fn plan(
     alloc: Global,
@@ -235,6 +265,7 @@ pub fn plan(
     hints: &Hints,
     patch: bool,
 ) -> Result<Planned, FaultStop>
+    requires lies { IsOfSize held.now.size held.now }
     ensures step { PlanAnswer held.now opened.now.joined patch (record { old = opened.now.meaning.tree; new = tree.now; hints = hints.now; digest = None }) result }
     // the text of a tree that changes is one that is read back
     ensures written { IfOk result (λ _. tree.now ≢ opened.now.meaning.tree → MayWrite tree.now hints.now (whole_form tree.now)) }

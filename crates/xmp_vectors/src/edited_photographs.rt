@@ -2,7 +2,7 @@
 use crate::PHOTO;
 use crate::editing::{TIFF, packet};
 use crate::patching::patch;
-use crate::runs::{NOT_BUILT, Plan, SOUND, run_edit, run_over};
+use crate::runs::{Plan, SOUND, run_edit, run_over};
 use std::alloc::{AllocError, Global};
 use std::test::Fail;
 use xmp_values::Memory;
@@ -13,8 +13,6 @@ const PLACE: usize = 35;
 const EMPTY: &[u8] = b"\xFF\xD8\xFF\xD9";
 
 const SET: [&str; 5] = ["set", "a.xmp", "out", "dc:format", "image/tiff"];
-
-const SET_LONGER: [&str; 5] = ["set", "a.xmp", "out", "dc:format", "image/x-raw"];
 
 const APPLY: [&str; 4] = ["apply", "a.xmp", "out", "script"];
 
@@ -41,12 +39,6 @@ fn writes(
     Ok(ran.ended(report, "") && ran.wrote(new))
 }
 
-/// Whether these words are refused by this line, with no OUT.
-fn refuses(alloc: Global, words: &[&str], file: &[u8], line: &str) -> Result<bool, Memory> {
-    let ran = run_edit(alloc, words, file, b"", SOUND)?;
-    Ok(ran.ended("", line) && ran.wrote_none())
-}
-
 #[test]
 fn a_packet_that_fits_is_exchanged_in_its_place(rt: HostRuntime) -> Result<(), Fail> {
     let alloc = rt.alloc();
@@ -55,15 +47,6 @@ fn a_packet_that_fits_is_exchanged_in_its_place(rt: HostRuntime) -> Result<(), F
     assert!(rt; writes(alloc, &SET, &old, "in-place 365\n", &new)?);
     assert!(rt; writes(alloc, &APPLY, &old, "same 365\n", &old)?);
     assert!(rt; writes(alloc, &APPLY, EMPTY, "same 4\n", EMPTY)?);
-    Ok(())
-}
-
-#[test]
-fn a_photograph_is_not_relocated_yet(rt: HostRuntime) -> Result<(), Fail> {
-    let alloc = rt.alloc();
-    let old = photograph(alloc, PHOTO)?;
-    assert!(rt; refuses(alloc, &SET, EMPTY, NOT_BUILT)?);
-    assert!(rt; refuses(alloc, &SET_LONGER, &old, NOT_BUILT)?);
     Ok(())
 }
 

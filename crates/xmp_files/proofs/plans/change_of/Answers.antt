@@ -1,16 +1,26 @@
 use Rattle.xmp_files.specs.Planning.{Edited}
-use Rattle.std.proofs.Common.{length, None, refl, sym, ap, ◌∙◌, subst, arith}
-use Rattle.std.proofs.lemmas.Bool.{OnTrue_at, OnFalse_at}
+use Rattle.std.proofs.Common.{ℕ, List, length, None, refl, sym, ap, ◌∙◌, subst, arith}
+use Rattle.std.specs.Prelude.{IfOk}
+use Rattle.std.specs.Option.{option_copied}
+use Rattle.xmp_base.specs.declared.file_span.FileSpan.{FileSpan}
+use Rattle.jpeg_regions.specs.Jpeg.{portion_payloads}
+use Rattle.jpeg_regions.specs.Cutting.{Tiles}
+use Rattle.jpeg_extended.specs.FromDesk.{ArePicked}
+use Rattle.round_trip.specs.Law.{MayWrite}
+use Rattle.xmp_write.specs.WrittenPackets.{packet}
+use Rattle.xmp_files.specs.Planning.{Part, Relocated}
+use Rattle.xmp_files.specs.Plans.{segments_text, segment_padded, whole_form}
+use Rattle.xmp_files.proofs.Relocations.{container_lies, any_ok}
 use Rattle.xmp_tree.specs.Wf.{Wf}
 use Rattle.xmp_files.proofs.MayBeWritten.{may_be_written}
-use Rattle.xmp_files.proofs.Placing.{inside_moved, anew_moved, unbuilt_moved}
-use Rattle.xmp_files.specs.Planneds.{plan_of}
+use Rattle.xmp_files.proofs.Placing.{inside_moved, anew_moved, unbuilt_moved, among_answer, least_exact}
+use Rattle.xmp_files.specs.Planneds.{plan_of, AmongAnswer, ExchangeLies}
 use Rattle.xmp_files.proofs.plans.change_of.Goals as goal
 
 pub returns-then-fits-clause-step : goal.returns-then-fits-clause-step
 returns-then-fits-clause-step c old =
     let e : Edited = record { old = old; new = c.args.tree.now; hints = c.args.hints.now; digest = None } in
-    inside_moved c.args.held.now.payload c.args.held.now.container c.args.joined c.args.patch e c.in_ok-prefixes.prefixes c.whole-form.result c.least_len-least.result
+    inside_moved c.args.held.now.payload c.args.held.now.container c.args.held.now.portions c.args.joined c.args.patch e c.in_ok-prefixes.prefixes c.whole-form.result c.least_len-least.result
     c.saturating_add-padded.result (plan_of c.in_ok-inside.field-0) c.in_ok-prefixes.ensures c.whole-form.ensures c.least_len-least.ensures c.saturating_add-padded.ensures
     c.if-padded-gt-PACKET_LIMIT.false (sym c.fits.ensures ∙ c.if-fits.true) c.in_ok-inside.ensures
 
@@ -19,21 +29,62 @@ returns-then-fits-clause-written c =
     may_be_written c.args.tree.now c.args.hints.now c.in_ok-prefixes.prefixes c.whole-form.result (subst Wf c.tree.view_is c.tree.invariant) c.as_slice.ensures.valid
     c.whole-form.ensures c.in_ok-prefixes.ensures (omega (arith, c.count_of-count.ensures, c.count_of-count.type_inv, ap length c.as_slice.ensures.hints, ap length c.as_slice-2.ensures))
 
-pub returns-then-is_sidecar-clause-step : goal.returns-then-is_sidecar-clause-step
-returns-then-is_sidecar-clause-step c old =
+pub returns-in_default-clause-step : goal.returns-in_default-clause-step
+returns-in_default-clause-step c old =
     let e : Edited = record { old = old; new = c.args.tree.now; hints = c.args.hints.now; digest = None } in
-    anew_moved c.args.held.now.payload c.args.held.now.container c.args.joined c.args.patch e c.in_ok-prefixes.prefixes c.whole-form.result c.least_len-least.result
+    anew_moved c.args.held.now.payload c.args.held.now.container c.args.held.now.portions c.args.joined c.args.patch e c.in_ok-prefixes.prefixes c.whole-form.result c.least_len-least.result
     c.saturating_add-padded.result c.in_ok-prefixes.ensures c.whole-form.ensures c.least_len-least.ensures c.saturating_add-padded.ensures
-    c.if-padded-gt-PACKET_LIMIT.false (sym c.fits.ensures ∙ c.if-fits.false) c.if-patch.false _ _ (OnTrue_at c.if-is_sidecar.true c.is_sidecar.ensures.yes) refl c.in_ok-packet.ensures
+    c.if-padded-gt-PACKET_LIMIT.false (sym c.fits.ensures ∙ c.if-fits.false) c.if-patch.false _ c.in_ok-bytes.bytes (sym c.regions.ensures ∙ ap option_copied c.in_default.is)
+    (ap (λ (ps : List Part). Relocated ps) c.in_ok-whole_file.ensures.is) c.in_ok-bytes.ensures
 
-pub returns-then-is_sidecar-clause-written : goal.returns-then-is_sidecar-clause-written
-returns-then-is_sidecar-clause-written c =
+pub returns-in_default-clause-written : goal.returns-in_default-clause-written
+returns-in_default-clause-written c =
     may_be_written c.args.tree.now c.args.hints.now c.in_ok-prefixes.prefixes c.whole-form.result (subst Wf c.tree.view_is c.tree.invariant) c.as_slice.ensures.valid
     c.whole-form.ensures c.in_ok-prefixes.ensures (omega (arith, c.count_of-count.ensures, c.count_of-count.type_inv, ap length c.as_slice.ensures.hints, ap length c.as_slice-2.ensures))
+
+pub returns-in_default-clause-lies : goal.returns-in_default-clause-lies
+returns-in_default-clause-lies c = c.in_ok-whole_file.ensures.lies c.args.held.now.size
+
+pub returns-then-least-gt-SEGMENT_LIMIT-clause-step : goal.returns-then-least-gt-SEGMENT_LIMIT-clause-step
+returns-then-least-gt-SEGMENT_LIMIT-clause-step c old =
+    let e : Edited = record { old = old; new = c.args.tree.now; hints = c.args.hints.now; digest = None } in
+    unbuilt_moved c.args.held.now.payload c.args.held.now.container c.args.held.now.portions c.args.joined c.args.patch e c.in_ok-prefixes.prefixes c.whole-form.result c.least_len-least.result
+    c.saturating_add-padded.result c.in_ok-prefixes.ensures c.whole-form.ensures c.least_len-least.ensures c.saturating_add-padded.ensures
+    c.if-padded-gt-PACKET_LIMIT.false (sym c.fits.ensures ∙ c.if-fits.false) c.if-patch.false c.in-Some.regions.now c.not_built.result (sym c.regions.ensures ∙ ap option_copied c.in-Some.is)
+    c.if-least-gt-SEGMENT_LIMIT.true c.not_built.ensures
+
+pub with_packet-requires-clause-tiles : goal.with_packet-requires-clause-tiles
+with_packet-requires-clause-tiles c =
+    subst (λ (n : ℕ). Tiles 2 n c.in-Some.regions.now) (sym c.size.ensures)
+    (container_lies c.args.held.now.size c.args.held.now.container c.args.held.now.portions c.in-Some.regions.now c.requires.lies.container (sym c.regions.ensures ∙ ap option_copied c.in-Some.is)).0
+
+pub with_packet-requires-clause-among : goal.with_packet-requires-clause-among
+with_packet-requires-clause-among c =
+    subst (λ (ps : List FileSpan). ArePicked ps (portion_payloads c.in-Some.regions.now)) (sym c.portions-portions.ensures)
+    (container_lies c.args.held.now.size c.args.held.now.container c.args.held.now.portions c.in-Some.regions.now c.requires.lies.container (sym c.regions.ensures ∙ ap option_copied c.in-Some.is)).1
+
+pub with_packet-requires-clause-least : goal.with_packet-requires-clause-least
+with_packet-requires-clause-least c =
+    let e : Edited = record { old = c.args.tree.now; new = c.args.tree.now; hints = c.args.hints.now; digest = None } in
+    least_exact c.args.held.now.payload c.args.held.now.container c.args.held.now.portions c.args.joined c.args.patch e c.in_ok-prefixes.prefixes c.whole-form.result c.least_len-least.result
+    c.saturating_add-padded.result c.in_ok-prefixes.ensures c.whole-form.ensures c.least_len-least.ensures c.saturating_add-padded.ensures
+    c.if-padded-gt-PACKET_LIMIT.false (sym c.fits.ensures ∙ c.if-fits.false) c.if-patch.false
 
 pub returns-clause-step : goal.returns-clause-step
 returns-clause-step c old =
     let e : Edited = record { old = old; new = c.args.tree.now; hints = c.args.hints.now; digest = None } in
-    unbuilt_moved c.args.held.now.payload c.args.held.now.container c.args.joined c.args.patch e c.in_ok-prefixes.prefixes c.whole-form.result c.least_len-least.result
+    among_answer c.args.held.now.payload c.args.held.now.container c.args.held.now.portions c.args.joined c.args.patch e c.in_ok-prefixes.prefixes c.whole-form.result c.least_len-least.result
     c.saturating_add-padded.result c.in_ok-prefixes.ensures c.whole-form.ensures c.least_len-least.ensures c.saturating_add-padded.ensures
-    c.if-padded-gt-PACKET_LIMIT.false (sym c.fits.ensures ∙ c.if-fits.false) c.if-patch.false c.not_built.result (OnFalse_at c.if-is_sidecar.false c.is_sidecar.ensures.no) c.not_built.ensures
+    c.if-padded-gt-PACKET_LIMIT.false (sym c.fits.ensures ∙ c.if-fits.false) c.if-patch.false c.in-Some.regions.now c.with_packet.result (sym c.regions.ensures ∙ ap option_copied c.in-Some.is)
+    c.if-least-gt-SEGMENT_LIMIT.false
+    (subst (λ (ps : List FileSpan). AmongAnswer c.in-Some.regions.now ps (segments_text (packet c.in_ok-prefixes.prefixes c.args.tree.now c.whole-form.result (segment_padded c.least_len-least.result)) None) c.with_packet.result)
+    c.portions-portions.ensures c.with_packet.ensures.step)
+
+pub returns-clause-written : goal.returns-clause-written
+returns-clause-written c =
+    any_ok (MayWrite c.args.tree.now c.args.hints.now (whole_form c.args.tree.now)) c.with_packet.result
+    (may_be_written c.args.tree.now c.args.hints.now c.in_ok-prefixes.prefixes c.whole-form.result (subst Wf c.tree.view_is c.tree.invariant) c.as_slice.ensures.valid
+    c.whole-form.ensures c.in_ok-prefixes.ensures (omega (arith, c.count_of-count.ensures, c.count_of-count.type_inv, ap length c.as_slice.ensures.hints, ap length c.as_slice-2.ensures)))
+
+pub returns-clause-lies : goal.returns-clause-lies
+returns-clause-lies c = subst (λ (n : ℕ). IfOk c.with_packet.result (ExchangeLies n)) c.size.ensures c.with_packet.ensures.lies
