@@ -16,7 +16,7 @@ use Rattle.xmp_values.specs.declared.hints.Hint.{Hint}
 use Rattle.xmp_write.specs.Prefixes.{has_prefix, is_free, numbered, free_number}
 use Rattle.xmp_write.proofs.Numbers.{AreTried, least_tried}
 
-numbered_injective : (m n : ℕ) → m < 2 ^ 64 → n < 2 ^ 64 → numbered m ≡ numbered n → m ≡ n
+pub numbered_injective : (m n : ℕ) → m < 2 ^ 64 → n < 2 ^ 64 → numbered m ≡ numbered n → m ≡ n
 numbered_injective m n small also same = decimal_injective m n small also (ap (drop 2) same)
 
 -- the prefixes of a list

@@ -53,14 +53,32 @@ after true false = refl
 after false true = refl
 after false false = refl
 
+abbrev pub is_prefix : Vec ℕ Global → Vec ℕ Global → Ordering
+is_prefix = by_bytes (λ (v : Vec ℕ Global). v.items)
+
 -- a set with the prefix of one hint more
-pub given_more : (taken new : BTreeSet (Vec ℕ Global)) (list more : List Hint) (key : Vec ℕ Global) (h : Hint) → key.items ≡ h.prefix → HasGiven taken list
-    → new.keys ≡ insert_key (by_bytes (λ (v : Vec ℕ Global). v.items)) taken.keys key → more ≡ list ++ h ∷ [] → HasGiven new more
-given_more taken new list more key h keyed has keys put text =
+pub given_more : (taken new : BTreeSet (Vec ℕ Global)) (list more : List Hint) (key : Vec ℕ Global) (h : Hint) (text : List ℕ) → key.items ≡ h.prefix → HasGiven taken list text
+    → new.keys ≡ insert_key is_prefix taken.keys key → more ≡ list ++ h ∷ [] → HasGiven new more text
+given_more taken new list more key h text keyed has keys put =
     ap (list_any (is_text (λ (v : Vec ℕ Global). v.items) text)) keys
     ∙ has-insert_key (λ (v : Vec ℕ Global). v.items) text key taken.keys
     ∙ ap (λ here. here || owns_text taken text) (is_eq-slice_cmp text key.items ∙ ap (bytes_eq text) keyed)
-    ∙ ap (λ before. bytes_eq text h.prefix || before) (has text)
+    ∙ ap (λ before. bytes_eq text h.prefix || before) has
     ∙ after (bytes_eq text h.prefix) (has_prefix list text)
+    ∙ sym (list_any-append (λ h. bytes_eq text h.prefix) list (h ∷ []))
+    ∙ ap (λ hs. has_prefix hs text) (sym put)
+
+same_or : (a b : Bool) → b ≡ false → a ≡ (a || (b || false))
+same_or true b e = refl
+same_or false true e = absurd cc
+same_or false false e = refl
+
+-- a set without it, of another prefix
+pub given_other : (taken new : BTreeSet (Vec ℕ Global)) (list more : List Hint) (h : Hint) (text : List ℕ) → bytes_eq text h.prefix ≡ false → HasGiven taken list text
+    → new ≡ taken → more ≡ list ++ h ∷ [] → HasGiven new more text
+given_other taken new list more h text other has same put =
+    ap (λ set. owns_text set text) same
+    ∙ has
+    ∙ same_or (has_prefix list text) (bytes_eq text h.prefix) other
     ∙ sym (list_any-append (λ h. bytes_eq text h.prefix) list (h ∷ []))
     ∙ ap (λ hs. has_prefix hs text) (sym put)
