@@ -35,7 +35,7 @@ inside_by false false true x u v w nx nu nv e = refl
 ends_in : (header at end len : ℕ) → (nat_le header at && nat_le end len) ≡ true → end ≤ len
 ends_in header at end len h = grind (arith, nat_tests, h)
 
-directory_in : (l : Layout) (file before : List ℕ) (at : ℕ) → place_fault l file before at ≡ None → end_at l file at ≤ length file
+pub directory_in : (l : Layout) (file before : List ℕ) (at : ℕ) → place_fault l file before at ≡ None → end_at l file at ≤ length file
 unfolding place_fault
 directory_in l file before at e =
     ends_in l.header at (end_at l file at) (length file)
@@ -64,7 +64,7 @@ entry_in_file l file len first seen place w h e =
     value_by (nat_le size l.word) l.word size (place + 4 + l.word) (number l.big l.word (place + 4 + l.word) file) len refl (omega (arith, wide))
     (not_out (value_out l len (entry_at l file place)) (broken ValueOut place) (tag_fault first seen (entry_at l file place)) (λ i. (cc)) e)
 
-entries_in_file : (l : Layout) (file : List ℕ) (len : ℕ) (first seen : Bool) (place n : ℕ) → Widths l → place + l.entry * n ≤ len
+pub entries_in_file : (l : Layout) (file : List ℕ) (len : ℕ) (first seen : Bool) (place n : ℕ) → Widths l → place + l.entry * n ≤ len
     → entries_fault l len first seen (entries_from l file place n) ≡ None → All (λ e. e.value.end ≤ len) (entries_from l file place n)
 entries_in_file l file len first seen place zero w h e = All-nil (λ (x : Entry). x.value.end ≤ len)
 entries_in_file l file len first seen place (suc n) w h e =
@@ -111,7 +111,7 @@ all_in_file l file (x ∷ xs) each r m =
     ]
 
 -- where an offset stands, it has no fault
-no_fault : (file offsets : List ℕ) → Walks file offsets → (x : ℕ) → Contains offsets x → (before : List ℕ) × (fault_at (layout_of file) file before x ≡ None)
+pub no_fault : (file offsets : List ℕ) → Walks file offsets → (x : ℕ) → Contains offsets x → (before : List ℕ) × (fault_at (layout_of file) file before x ≡ None)
 no_fault file offsets w x (k, low, is) = (take k offsets, w.reaches.sound k x (slice_get-get_or offsets k x low ∙ ap Some is))
 
 pub tables_lie : (file offsets : List ℕ) → Walks file offsets → (r : FileSpan) → Contains (tables_of (layout_of file) file offsets) r → r.end ≤ length file
