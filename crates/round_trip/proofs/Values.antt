@@ -78,10 +78,10 @@ ItemsReads n row =
 pub name_row : (name : Name) (v : Value) → tree.name_of (Member' name v) ≡ name
 name_row name v = rw (tree.name_of, outs-Member' name v) refl
 
-value_row : (name : Name) (v : Value) → tree.value_of (Member' name v) ≡ v
+pub value_row : (name : Name) (v : Value) → tree.value_of (Member' name v) ≡ v
 value_row name v = rw (tree.value_of, outs-Member' name v) refl
 
-tag_is : (n : Name) → is_lang_name n ≡ true → n ≡ lang_name
+pub tag_is : (n : Name) → is_lang_name n ≡ true → n ≡ lang_name
 unfolding lang_name
 tag_is n h =
     let parts = and_parts (bytes_eq n.space xml_space) (bytes_eq n.local (codes "lang")) h in
