@@ -19,13 +19,12 @@ use Rattle.xmp_tree.specs.Parts.{Parts}
 use Rattle.xmp_rdf.specs.declared.meanings.Meaning.{Meaning}
 use Rattle.xmp_edit.specs.ScriptParts.{ScriptParts}
 use Rattle.xmp_edit.specs.Scripts.{edits_made}
-use Rattle.round_trip.specs.Law.{MayWrite}
 use Rattle.xmp_files.specs.declared.opening.Opened.{Opened}
 use Rattle.xmp_files.specs.Faults.{no_file}
 use Rattle.xmp_files.specs.Stages.{followed, Followed}
 use Rattle.xmp_files.specs.Keeping.{Kept}
 use Rattle.xmp_files.specs.Planning.{Edited, Plan}
-use Rattle.xmp_files.specs.Plans.{IsPlanned, whole_form}
+use Rattle.xmp_files.specs.Plans.{IsPlanned, MayPlan}
 use Rattle.xmp_files.specs.Planneds.{PlannedFile, PlanAnswer}
 use Rattle.xmp_files.proofs.OnePlan.{planned_there}
 use Rattle.xmp_cli.specs.Edits.{Source, Given, Lines, text_of, edits_from, part_of, in_part, with_tree, made, edited_from, edited_of}
@@ -103,7 +102,7 @@ module _ (source : Source) (patch : Bool) (text : List ℕ) (kept : Kept) (opene
 
       -- the plan is made, or refused
       plan_from : (result : Result PlannedFile FaultStop) → PlanAnswer kept opened.joined patch (record { old = opened.meaning.tree; new = new; hints = script.hints; digest = None }) result
-          → IfOk result (λ _. new ≢ opened.meaning.tree → MayWrite new script.hints (whole_form new)) → FromText source patch text kept opened result
+          → IfOk result (λ _. new ≢ opened.meaning.tree → MayPlan new script.hints) → FromText source patch text kept opened result
       plan_from (Ok p) h may = (
         record { edited = record { old = opened.meaning.tree; new = new; hints = script.hints; digest = None }; is = edited_is; scripted = refl; planned = h.0; written = may },
         h.1,
@@ -114,11 +113,11 @@ module _ (source : Source) (patch : Bool) (text : List ℕ) (kept : Kept) (opene
 
       pub planned_from : (hints : List Hint) (given : Bool) (result : Result PlannedFile FaultStop) → hints ≡ script.hints → given ≡ patch
           → PlanAnswer kept opened.joined given (record { old = opened.meaning.tree; new = new; hints = hints; digest = None }) result
-          → IfOk result (λ _. new ≢ opened.meaning.tree → MayWrite new hints (whole_form new)) → FromText source patch text kept opened result
+          → IfOk result (λ _. new ≢ opened.meaning.tree → MayPlan new hints) → FromText source patch text kept opened result
       planned_from hints given result is by h may =
           plan_from result (subst (λ (hs : List Hint). PlanAnswer kept opened.joined patch (record { old = opened.meaning.tree; new = new; hints = hs; digest = None }) result) is
           (subst (λ (b : Bool). PlanAnswer kept opened.joined b (record { old = opened.meaning.tree; new = new; hints = hints; digest = None }) result) by h))
-          (subst (λ (hs : List Hint). IfOk result (λ _. new ≢ opened.meaning.tree → MayWrite new hs (whole_form new))) is may)
+          (subst (λ (hs : List Hint). IfOk result (λ _. new ≢ opened.meaning.tree → MayPlan new hs)) is may)
 
 -- With SCRIPT's text.
 

@@ -12,7 +12,6 @@ use Rattle.xmp_tree.specs.Parts.{Parts}
 use Rattle.xmp_rdf.specs.declared.meanings.Meaning.{Meaning}
 use Rattle.xmp_edit.specs.ScriptParts.{ScriptParts}
 use Rattle.xmp_edit.specs.Scripts.{edits_made}
-use Rattle.round_trip.specs.Law.{MayWrite}
 use Rattle.xmp_files.specs.declared.opening.Opened.{Opened}
 use Rattle.xmp_files.specs.declared.held.Need.TheVariants.{Packet}
 use Rattle.xmp_files.specs.Faults.{no_file}
@@ -21,7 +20,7 @@ use Rattle.xmp_files.specs.Keeping.{Kept}
 use Rattle.xmp_files.specs.Loading.{IsLoaded}
 use Rattle.xmp_files.specs.Opening.{IsOpened, HoldsTree}
 use Rattle.xmp_files.specs.Planning.{Edited, Plan, Frame, planned_file}
-use Rattle.xmp_files.specs.Plans.{IsPlanned, whole_form}
+use Rattle.xmp_files.specs.Plans.{IsPlanned, MayPlan, Apart, NoStray}
 use Rattle.xmp_files.proofs.OneStep.{one_loaded, one_opened}
 use Rattle.xmp_files.proofs.OnePlan.{one_planned}
 use Rattle.xmp_files.proofs.Writes.{file_written}
@@ -81,8 +80,8 @@ module _ (source : Source) (patch : Bool) (file : List ℕ) (files : Files) (kep
         let of_edited = subst (λ (d : Edited). IsPlanned k x.opened.joined patch d (Ok plan)) (sym same_edited) of_opened in
         same_ok n plan (one_planned k x.opened.joined patch e (Ok n) (Ok plan) x.planned of_edited)
 
-    may : e.new ≢ e.old → MayWrite e.new e.hints (whole_form e.new)
-    may = subst (λ (d : Edited). d.new ≢ d.old → MayWrite d.new d.hints (whole_form d.new)) (sym same_edited) of_run.written
+    may : e.new ≢ e.old → MayPlan e.new e.hints
+    may = subst (λ (d : Edited). d.new ≢ d.old → MayPlan d.new d.hints) (sym same_edited) of_run.written
 
     here : IsLoaded Packet (Some (bytes_of files file)) (Ok k)
     here = subst (λ (f : Option (List ℕ)). IsLoaded Packet f (Ok k)) (there (get files file) k x.loaded) x.loaded
@@ -90,8 +89,9 @@ module _ (source : Source) (patch : Bool) (file : List ℕ) (files : Files) (kep
     holds : HoldsTree (Some (bytes_of files file)) e.old
     holds = (x.opened, (Ok k, here, x.opens), sym (edited_old source files x.opened.meaning e x.edits))
 
-    good : HoldsTree (Some (planned_file (bytes_of files file) n)) e.new × Frame k n (bytes_of files file) (planned_file (bytes_of files file) n)
-    good = file_written Packet (bytes_of files file) k x.opened.joined patch e n here x.planned holds may
+    good : (Apart k.container → NoStray (bytes_of files file) k.container k.portions e n → HoldsTree (Some (planned_file (bytes_of files file) n)) e.new)
+        × Frame k n (bytes_of files file) (planned_file (bytes_of files file) n)
+    good = let w = file_written Packet (bytes_of files file) k x.opened.joined patch e n here x.planned holds may in (w.0, w.1)
 
     framed : (before after : List ℕ) → bytes_of files file ≡ before → planned_file (bytes_of files file) n ≡ after → Frame k n before after
     framed before after b a =
@@ -101,7 +101,8 @@ module _ (source : Source) (patch : Bool) (file : List ℕ) (files : Files) (kep
     written_is new is =
         let new_is : new ≡ Some (planned_file (bytes_of files file) n) = is ∙ ap (λ (m : Plan). Some (planned_file (bytes_of files file) m)) (sym same_plan) in
         record {
-          reads_back = λ apart stray. subst (λ (f : Option (List ℕ)). HoldsTree f e.new) (sym new_is) good.0;
+          reads_back = λ apart stray. subst (λ (f : Option (List ℕ)). HoldsTree f e.new) (sym new_is)
+              (good.0 apart (stray (bytes_of files file) (there (get files file) k x.loaded)));
           frame = λ before after b a.
               framed before after (same_some (bytes_of files file) before (sym (there (get files file) k x.loaded) ∙ b)) (same_some (planned_file (bytes_of files file) n) after (sym new_is ∙ a));
         }

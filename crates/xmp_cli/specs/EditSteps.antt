@@ -9,12 +9,11 @@ use Rattle.xmp_values.specs.declared.rules.Rule.TheVariants.{NoFile}
 use Rattle.xmp_values.specs.declared.stops.FaultStop.{FaultStop}
 use Rattle.xmp_values.specs.declared.stops.FileStop.{FileStop}
 use Rattle.xmp_values.specs.declared.stops.FileStop.TheVariants as stop
-use Rattle.round_trip.specs.Law.{MayWrite}
 use Rattle.xmp_files.specs.declared.opening.Opened.{Opened}
 use Rattle.xmp_files.specs.Faults.{no_file}
 use Rattle.xmp_files.specs.Keeping.{Kept}
 use Rattle.xmp_files.specs.Planning.{Edited, Plan}
-use Rattle.xmp_files.specs.Plans.{IsPlanned, whole_form}
+use Rattle.xmp_files.specs.Plans.{IsPlanned, MayPlan}
 use Rattle.xmp_files.specs.Planneds.{PlannedFile}
 use Rattle.xmp_files.specs.Emitting.{EmitCall}
 use Rattle.xmp_files.specs.Patching.{FileIsPatched, PatchCall}
@@ -96,14 +95,14 @@ pub record TextCall (source : Source) (s t : DeskState) (result : Result (List �
   pub refuses : (fault : Fault) → result ≡ Err (stop.Fault fault) → IsTextRefusal source t fault
   pub text : IfOk result (IsTextOf source t)
 
--- A plan for an opened file, and the edit that it is for, which renews no digest. The text of a tree that changes is one that is read
--- back.
+-- A plan for an opened file, and the edit that it is for, which renews no digest. The texts of a tree that changes are ones that are
+-- read back.
 pub record IsPlanOf (patch : Bool) (step : Result Edited Fault) (kept : Kept) (opened : Opened) (plan : Plan) : Type 0 where
   pub edited : Edited
   pub is : step ≡ Ok edited
   pub scripted : edited.digest ≡ None
   pub planned : IsPlanned kept opened.joined patch edited (Ok plan)
-  pub written : edited.new ≢ edited.old → MayWrite edited.new edited.hints (whole_form edited.new)
+  pub written : edited.new ≢ edited.old → MayPlan edited.new edited.hints
 
 -- what the edits of a text make of an opened file
 abbrev pub FromText : Source → Bool → List ℕ → Kept → Opened → Result PlannedFile FaultStop → Type 0

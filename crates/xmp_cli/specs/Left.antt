@@ -5,7 +5,8 @@ use Rattle.xmp_base.specs.Device.{DeskState, SinkState, Files, Rose, SameFiles, 
 use Rattle.xmp_base.specs.Windows.{MovesInside, PartOf}
 use Rattle.xmp_files.specs.Keeping.{Piece, Kept}
 use Rattle.xmp_files.specs.Opening.{HoldsTree, IsWhole}
-use Rattle.xmp_files.specs.Planning.{Edited, Plan, Agree, Frame, Apart, NoStray}
+use Rattle.xmp_files.specs.Planning.{Edited, Plan, Agree, Frame}
+use Rattle.xmp_files.specs.Plans.{Apart, NoStray}
 use Rattle.xmp_cli.specs.Commands.{Command, Patch}
 use Rattle.xmp_cli.specs.Answer.{Change, puts, patches, Outcome, Plans, changed}
 use Rattle.xmp_cli.specs.Sending.{SentSome}
@@ -51,7 +52,8 @@ Patched (Some (Patch file script)) files s t =
     SameFiles s t ⊎ ((now : Files) × (t.files ≡ Some now) × InPatch (Patch file script) file files now s t)
 Patched other files s t = Unit {0}
 
--- What a command that edits has written, where it is done: the file is read as the new tree, and keeps what its plan says.
+-- What a command that edits has written, where it is done: the file is read as the new tree, under the two conditions on the old file, and
+-- keeps what its plan says.
 pub record Written (old new : Option (List ℕ)) (kept : Kept) (edited : Edited) (plan : Plan) : Type 0 where
-  pub reads_back : Apart kept.container → NoStray kept.container plan → HoldsTree new edited.new
+  pub reads_back : Apart kept.container → ((before : List ℕ) → old ≡ Some before → NoStray before kept.container kept.portions edited plan) → HoldsTree new edited.new
   pub frame : (before after : List ℕ) → old ≡ Some before → new ≡ Some after → Frame kept plan before after

@@ -7,7 +7,7 @@ use Rattle.std.specs.FinMap.{get}
 use Rattle.std.proofs.lemmas.List.{append-nil, length-drop, take_all}
 use Rattle.std.proofs.lemmas.List.Elements.{All-nil, All-cons}
 use Rattle.xmp_base.specs.declared.device.Failed.{Failed}
-use Rattle.xmp_base.specs.Device.{DeskState, CreateCall, Told, bytes_of, len_of, is_known, put_at}
+use Rattle.xmp_base.specs.Device.{DeskState, CreateCall, Told, bytes_of, put_at}
 use Rattle.xmp_base.proofs.Ranges.{put_same}
 use Rattle.jpeg_regions.specs.Jpeg.{span}
 use Rattle.jpeg_extended.specs.FromDesk.{payload_at}
@@ -15,10 +15,10 @@ use Rattle.xmp_files.specs.declared.held.Need.{Need}
 use Rattle.xmp_files.specs.declared.parts.FilePart.{FilePart}
 use Rattle.xmp_files.specs.declared.parts.NewFile.{NewFile}
 use Rattle.xmp_files.specs.Faults.{no_file}
-use Rattle.xmp_files.specs.Keeping.{Piece, Container, Kept}
+use Rattle.xmp_files.specs.Keeping.{Piece, Kept}
 use Rattle.xmp_files.specs.Loading.{IsLoaded}
 use Rattle.xmp_files.specs.Loads.{PayloadLies, IsOfSize}
-use Rattle.xmp_files.specs.NewFiles.{parts_at, PartLies, NewLies, spliced_parts}
+use Rattle.xmp_files.specs.NewFiles.{parts_at, PartLies, spliced_parts}
 use Rattle.xmp_files.specs.Planning.{Edited, Plan, Same, InPlace, Relocated, parts_bytes, parts_len, planned_file}
 use Rattle.xmp_files.specs.Plans.{place_of, room_of, packet_of, planned_len}
 use Rattle.xmp_files.specs.Planneds.{bytes_in, new_packet, IsNear}
@@ -85,7 +85,8 @@ planned_by : (file : List ℕ) (kept : Kept) (e : Edited) (plan : Plan) → leng
 planned_by file kept e plan whole stands near (inl h) = planned_kept file kept.size kept.payload plan whole stands h.1
 planned_by file kept e plan whole stands near (inr (same, inl x)) = planned_exchange file kept.size kept.payload e plan whole stands x
 planned_by file kept e plan whole stands near (inr (same, inr (inl x))) = absurd (subst IsNear x.is near)
-planned_by file kept e plan whole stands near (inr (same, inr (inr x))) = absurd (subst IsNear x.is near)
+planned_by file kept e plan whole stands near (inr (same, inr (inr (inl x)))) = absurd (subst IsNear x.is near)
+planned_by file kept e plan whole stands near (inr (same, inr (inr (inr x)))) = absurd (subst IsNear x.is near)
 
 -- a file that was loaded is there
 pub loaded_there : (need : Need) (file : Option (List ℕ)) (kept : Kept) → IsLoaded need file (Ok kept) → file ≡ Some (unwrap_or file [])
@@ -123,7 +124,8 @@ size_by : (kept : Kept) (e : Edited) (plan : Plan) → PayloadLies kept.size kep
 size_by kept e plan lies near (inl h) = size_kept kept.size kept.payload plan lies h.1
 size_by kept e plan lies near (inr (same, inl x)) = size_exchange kept.size kept.payload e plan lies x
 size_by kept e plan lies near (inr (same, inr (inl x))) = absurd (subst IsNear x.is near)
-size_by kept e plan lies near (inr (same, inr (inr x))) = absurd (subst IsNear x.is near)
+size_by kept e plan lies near (inr (same, inr (inr (inl x)))) = absurd (subst IsNear x.is near)
+size_by kept e plan lies near (inr (same, inr (inr (inr x)))) = absurd (subst IsNear x.is near)
 
 near_len : (held : Kept) (new : Plan) → IsPlanFor held new → IsOfSize held.size held → IsNear new → parts_len (near_parts held.payload new held.size) ≡ planned_len held.size new
 near_len held new plan lies near =

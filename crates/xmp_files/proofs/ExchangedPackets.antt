@@ -1,5 +1,5 @@
 -- The packet of a JPEG file: where it stands, and what is kept of the file when it is exchanged for another one of its length.
-use Rattle.std.proofs.Common.{◌≡◌, ◌∙◌, ℕ, ◌+◌, ◌-◌, ◌<◌, ◌≤◌, min, Bool, cond, List, [], ◌∷◌, length, take, drop, refl, sym, ap, subst, arith, inl, inr, Ok, Err, Some, None}
+use Rattle.std.proofs.Common.{◌≡◌, ◌∙◌, ℕ, ◌+◌, ◌-◌, ◌<◌, ◌≤◌, min, Bool, cond, List, [], length, take, drop, refl, sym, ap, subst, arith, inl, inr, Ok, Err, Some, None}
 use Rattle.std.specs.declared.option.Option.{Option}
 use Rattle.std.specs.declared.result.Result.{Result}
 use Rattle.std.specs.Option.{option_map, ok_or}
@@ -20,7 +20,7 @@ use Rattle.xmp_files.specs.declared.held.Need.TheVariants.{Packet}
 use Rattle.xmp_files.specs.Faults.{file_limit, over_limit, not_known, packet_limit, over_packet}
 use Rattle.xmp_files.specs.Kinds.{kind_of}
 use Rattle.xmp_files.specs.Stages.{followed, Followed}
-use Rattle.xmp_files.specs.Keeping.{Piece, Kept, sidecar, photograph}
+use Rattle.xmp_files.specs.Keeping.{Piece, Kept, photograph}
 use Rattle.xmp_files.specs.Meanings.{IsNote, IsNoteOf}
 use Rattle.xmp_files.specs.Photographs.{piece_at, main_payload, packet_range, main_packet, IsPhotograph}
 use Rattle.xmp_files.specs.Loading.{known, kind_of_file, IsKept, IsLoaded}

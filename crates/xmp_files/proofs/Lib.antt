@@ -20,6 +20,9 @@ pub mod PlanCases
 pub mod PickedPortions
 pub mod KeptLie
 pub mod Relocations
+pub mod DividedTexts
+pub mod BothTexts
+pub mod PushedPortions
 pub mod RelocatedPhotographs
 pub mod ExchangedPackets
 pub mod OpenPackets

@@ -1,23 +1,37 @@
 -- A file and an edit have at most one plan, or one fault of it.
-use Rattle.std.proofs.Common.{◌≡◌, ◌∙◌, ℕ, ◌+◌, arith, List, length, Bool, true, false, Option, Some, None, Ok, Err, sym, ap, inl, inr, if◌then◌else◌}
+use Rattle.std.proofs.Common.{◌≡◌, ◌∙◌, ℕ, ◌+◌, arith, List, [], length, Bool, true, false, Option, Some, None, Ok, Err, sym, ap, inl, inr, if◌then◌else◌}
 use Rattle.std.specs.declared.result.Result.{Result}
 use Rattle.xmp_values.specs.declared.faults.Fault.{Fault}
-use Rattle.xmp_values.specs.declared.rules.Rule.TheVariants.{NoFile, NotBuilt}
+use Rattle.xmp_values.specs.declared.hints.Hint.{Hint}
+use Rattle.xmp_values.specs.declared.rules.Rule.TheVariants.{NoFile}
+use Rattle.xmp_tree.specs.Parts.{Parts}
+use Rattle.jpeg_regions.specs.Jpeg.{Region}
+use Rattle.jpeg_extended.specs.Written.{name_text}
+use Rattle.jpeg_relocation.proofs.Names.{name_capitals}
 use Rattle.xmp_base.specs.declared.file_span.FileSpan.{FileSpan}
 use Rattle.xmp_files.specs.Keeping.{Container, Text, Segments, Kept}
-use Rattle.xmp_files.specs.Faults.{file_limit, over_packet, not_built}
+use Rattle.xmp_files.specs.Faults.{file_limit, packet_limit, over_packet, over_extended}
 use Rattle.std.specs.Prelude.{nat_lt}
 use Rattle.jpeg_relocation.specs.declared.pictures.MovedPictures.{MovedPictures}
 use Rattle.jpeg_relocation.specs.Pictures.{moved_pictures}
 use Rattle.xmp_files.specs.Planning.{Edited, Part, parts_len, Plan, Relocated}
-use Rattle.xmp_files.specs.Plans.{after_pictures, over_out, unless_moved, parts_around, segments_text, segment_padded, packet_of, IsRelocation, OrRelocation, IsPlanned, unmoved, needs_relocation, padding, least_of, told, room_of, fits, stays}
+use Rattle.xmp_files.specs.Plans.{put_among, put_both, rest_text, front_packet, over_segment, IsDivided, after_pictures, over_out, unless_moved, parts_around, segments_text, segment_padded, packet_of, IsRelocation, OrRelocation, IsPlanned, unmoved, needs_relocation, padding, least_of, told, room_of, fits, stays}
+
+one_divided : (regions : List Region) (portions : List FileSpan) (t : Parts) (hints : List Hint) (a b : Result Plan Fault) → IsDivided regions portions t hints a → IsDivided regions portions t hints b → a ≡ b
+one_divided regions portions t hints a b (inl (k, s, p)) (inl (m, u, q)) =
+    let same : k ≡ m = omega (arith, s.largest m u.within u.fits, u.largest k s.within s.fits) in p ∙ ap (put_both regions portions t hints) same ∙ sym q
+one_divided regions portions t hints a b (inl (k, s, p)) (inr (m, n, q)) = absurd (n.never k s.within s.fits)
+one_divided regions portions t hints a b (inr (k, n, p)) (inl (m, u, q)) = absurd (n.never m u.within u.fits)
+one_divided regions portions t hints a b (inr (k, n, p)) (inr (m, o, q)) =
+    let same : k ≡ m = n.least_is (name_text []) (name_capitals []) ∙ sym (o.least_is (name_text []) (name_capitals [])) in
+    p ∙ ap (λ (l : ℕ). let r : Result Plan Fault = Err (over_segment l) in r) same ∙ sym q
 
 one_relocation : (container : Container) (portions : List FileSpan) (e : Edited) (a b : Result Plan Fault) → IsRelocation container portions e a → IsRelocation container portions e b → a ≡ b
 one_relocation Text portions e a b p q = p ∙ sym q
 one_relocation (Segments regions) portions e a b (inl p) (inl q) = p.1 ∙ sym q.1
 one_relocation (Segments regions) portions e a b (inl p) (inr q) = absurd (omega (arith, p.0, q.0))
 one_relocation (Segments regions) portions e a b (inr p) (inl q) = absurd (omega (arith, p.0, q.0))
-one_relocation (Segments regions) portions e a b (inr p) (inr q) = p.1 ∙ sym q.1
+one_relocation (Segments regions) portions e a b (inr p) (inr q) = one_divided regions portions e.new e.hints a b p.1 q.1
 
 one_moved : (known : Option (Result Plan Fault)) (container : Container) (portions : List FileSpan) (e : Edited) (a b : Result Plan Fault) → OrRelocation known container portions e a → OrRelocation known container portions e b → a ≡ b
 one_moved (Some known) container portions e a b p q = p ∙ sym q
@@ -31,11 +45,6 @@ one_planned kept joined patch e a b (inr p) (inr q) = one_moved (unmoved kept.pa
 
 -- No plan is refused as that of a file that isn't there.
 
-unbuilt_there : (fault : Fault) → (let r : Result Plan Fault = Err fault in r) ≡ Err not_built → fault.rule ≡ NoFile → ⊥
-unbuilt_there fault h rule =
-    let is : fault ≡ not_built = cc h in
-    let bad : NotBuilt ≡ NoFile = sym (ap (λ (f : Fault). f.rule) is) ∙ rule in cc bad
-
 named_there : (fault f : Fault) → (f.rule ≡ NoFile → ⊥) → (let r : Result Plan Fault = Err fault in r) ≡ Err f → fault.rule ≡ NoFile → ⊥
 named_there fault f other h rule = let is : fault ≡ f = cc h in other (sym (ap (λ (x : Fault). x.rule) is) ∙ rule)
 
@@ -48,11 +57,22 @@ among_there : (o : Option MovedPictures) (parts : List Part) (fault : Fault) →
 among_there (Some moved) parts fault h rule = named_there fault (after_pictures moved) (λ x. cc) h rule
 among_there None parts fault h rule = out_there (nat_lt file_limit (parts_len parts)) parts (over_out (told (parts_len parts))) fault (λ x. cc) h rule
 
+both_there : (over : Bool) (regions : List Region) (portions : List FileSpan) (new : List ℕ) (f fault : Fault) → (f.rule ≡ NoFile → ⊥)
+    → (let r : Result Plan Fault = Err fault in r) ≡ (if over then Err f else put_among regions portions new) → fault.rule ≡ NoFile → ⊥
+both_there true regions portions new f fault other h rule = named_there fault f other h rule
+both_there false regions portions new f fault other h rule = among_there (moved_pictures portions regions (length new)) (parts_around regions portions new) fault h rule
+
+divided_there : (regions : List Region) (portions : List FileSpan) (t : Parts) (hints : List Hint) (fault : Fault) → IsDivided regions portions t hints (Err fault) → fault.rule ≡ NoFile → ⊥
+divided_there regions portions t hints fault (inl (k, s, h)) rule =
+    let rest : List ℕ = rest_text t hints k in
+    both_there (nat_lt packet_limit (length rest)) regions portions (segments_text (front_packet t hints k) (Some rest)) (over_extended (told (length rest))) fault (λ x. cc) h rule
+divided_there regions portions t hints fault (inr (least, n, h)) rule = named_there fault (over_segment least) (λ x. cc) h rule
+
 relocation_there : (container : Container) (portions : List FileSpan) (e : Edited) (fault : Fault) → IsRelocation container portions e (Err fault) → fault.rule ≡ NoFile → ⊥
 relocation_there Text portions e fault h rule = cc h
 relocation_there (Segments regions) portions e fault (inl h) rule =
     let new : List ℕ = segments_text (packet_of e (segment_padded (least_of e))) None in among_there (moved_pictures portions regions (length new)) (parts_around regions portions new) fault h.1 rule
-relocation_there (Segments regions) portions e fault (inr h) rule = unbuilt_there fault h.1 rule
+relocation_there (Segments regions) portions e fault (inr h) rule = divided_there regions portions e.new e.hints fault h.1 rule
 
 moved_there : (over fit patch : Bool) (f g : Fault) (inside : Plan) (container : Container) (portions : List FileSpan) (e : Edited) (fault : Fault) → (f.rule ≡ NoFile → ⊥) → (g.rule ≡ NoFile → ⊥)
     → OrRelocation (if over then Some (Err f) else (if fit then Some (Ok inside) else (if patch then Some (Err g) else None))) container portions e (Err fault) → fault.rule ≡ NoFile → ⊥

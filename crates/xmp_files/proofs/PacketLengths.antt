@@ -1,14 +1,12 @@
 -- The packet that a plan has is the new file.
-use Rattle.std.proofs.Common.{◌≡◌, ◌⊎◌, ℕ, ◌+◌, ◌-◌, ◌≤◌, Bool, true, false, List, [], ◌∷◌, ◌++◌, length, Some, None, Ok, Err, refl, inl, inr, arith, ap, sym, subst, ◌∙◌, length-append, if◌then◌else◌}
-use Rattle.std.specs.Prelude.{not, nat_le, nat_lt, ◌&&◌}
+use Rattle.std.proofs.Common.{◌≡◌, ℕ, ◌+◌, ◌-◌, ◌≤◌, Bool, true, false, List, ◌++◌, length, Some, None, Ok, Err, refl, arith, ap, sym, ◌∙◌, length-append, if◌then◌else◌}
+use Rattle.std.specs.Prelude.{nat_lt}
 use Rattle.std.specs.declared.option.Option.{Option}
 use Rattle.std.specs.declared.result.Result.{Result}
-use Rattle.std.proofs.lemmas.Bool.{and_parts, leb-true}
 use Rattle.std.proofs.lemmas.List.{append-nil, drop_all}
 use Rattle.xmp_values.specs.declared.faults.Fault.{Fault}
 use Rattle.xmp_values.specs.declared.hints.Hint.{Hint}
 use Rattle.xmp_tree.specs.Parts.{Parts}
-use Rattle.xmp_packets.specs.Packets.{is_writable}
 use Rattle.xmp_write.specs.declared.forms.Form.{Form}
 use Rattle.xmp_write.specs.Text.{written_text}
 use Rattle.xmp_write.specs.WrittenPackets.{header, trailer, pad, packet, least_len}
@@ -22,9 +20,6 @@ use Rattle.xmp_files.specs.Stages.{followed, Followed}
 use Rattle.xmp_files.specs.Keeping.{Piece, Text, Segments, Kept, sidecar}
 use Rattle.xmp_files.specs.Photographs.{IsCut}
 use Rattle.xmp_files.specs.Loading.{limited, limited_by, IsKept}
-use Rattle.xmp_files.specs.Planning.{Edited, Plan, InPlace, Relocated, planned_file}
-use Rattle.xmp_files.specs.Plans.{IsPlanned, OrRelocation, planned_len, packet_of, least_of, padding, stays, fits, whole_form, told, needs_relocation}
-use Rattle.xmp_files.specs.Planneds.{new_packet}
 
 -- a packet has the length that is asked for, where that is at least its least one
 pub length-packet : (ps : List Hint) (t : Parts) (form : Form) (len : ℕ) → least_len ps t form ≤ len → length (packet ps t form len) ≡ len

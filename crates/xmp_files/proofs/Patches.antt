@@ -1,21 +1,14 @@
 -- A plan that changes a file in its place alone, and what patching it leaves.
 use Rattle.std.proofs.Common.{◌≡◌, ◌⊎◌, ℕ, ◌+◌, ◌≤◌, Bool, true, false, cond, List, [], ◌∷◌, ◌++◌, length, take, drop, Some, None, Ok, Err, IsTrue, refl, inl, inr, arith, ap, sym, subst, ◌∙◌, if◌then◌else◌}
-use Rattle.std.specs.Prelude.{◌≢◌, not, nat_eq, nat_le, nat_lt, ◌&&◌, ◌||◌, codes}
-use Rattle.std.specs.List.{starts_with, prefix_len}
+use Rattle.std.specs.Prelude.{◌≢◌, nat_eq, nat_lt, ◌&&◌, ◌||◌, codes}
+use Rattle.std.specs.List.{prefix_len}
 use Rattle.std.specs.Option.{ok_or, option_map}
 use Rattle.std.specs.declared.option.Option.{Option}
 use Rattle.std.specs.declared.result.Result.{Result}
-use Rattle.std.proofs.lemmas.Slice.Eq.{starts_is}
-use Rattle.std.proofs.lemmas.Bool.Decides.{Decides-eqb}
-use Rattle.std.proofs.lemmas.List.{take-append-drop}
-use Rattle.std.proofs.lemmas.Bool.{and_parts, leb-true, le-ltb, eqb-true}
+use Rattle.std.proofs.lemmas.Bool.{le-ltb, eqb-true}
 use Rattle.xmp_values.specs.Characters.{is_blank}
 use Rattle.xmp_values.specs.declared.faults.Fault.{Fault}
-use Rattle.xmp_values.specs.declared.hints.Hint.{Hint}
-use Rattle.xmp_tree.specs.Parts.{Parts}
-use Rattle.xmp_packets.specs.Packets.{is_writable, packet_text}
-use Rattle.xmp_write.specs.declared.forms.Form.{Form}
-use Rattle.xmp_write.specs.WrittenPackets.{packet}
+use Rattle.xmp_packets.specs.Packets.{is_writable}
 use Rattle.xmp_base.specs.Device.{DeskState, put_at}
 use Rattle.xmp_base.proofs.Ranges.{put_same}
 use Rattle.xmp_base.specs.declared.device.Failed.{Failed}
@@ -24,14 +17,14 @@ use Rattle.xmp_files.specs.declared.kinds.Kind.{Kind}
 use Rattle.xmp_files.specs.declared.kinds.Kind.TheVariants.{Jpeg, Tiff, BigTiff, WebP, Psd, Sidecar}
 use Rattle.xmp_files.specs.declared.held.Need.{Need}
 use Rattle.xmp_files.specs.declared.held.Need.TheVariants.{Packet}
-use Rattle.xmp_files.specs.Faults.{packet_limit, over_packet, file_limit, over_limit, not_known, not_built}
+use Rattle.xmp_files.specs.Faults.{packet_limit, over_packet, file_limit, over_limit, not_known}
 use Rattle.xmp_files.specs.Kinds.{kind_of, kind_of_head, is_jpeg, is_tiff, is_big_tiff, is_webp, is_psd, is_markup, is_sidecar, without_mark, begins}
 use Rattle.xmp_files.specs.Stages.{followed, Followed}
 use Rattle.xmp_files.specs.Keeping.{Piece, Container, Text, Segments, Kept, sidecar}
 use Rattle.xmp_files.specs.Loading.{known, kind_of_file, IsKept, IsLoaded}
 use Rattle.xmp_files.specs.Opening.{Holds, IsWhole, HoldsTree}
 use Rattle.xmp_files.specs.Planning.{Edited, Plan, Same, InPlace, planned_file}
-use Rattle.xmp_files.specs.Plans.{packet_of, least_of, padding, fits, fits_payload, exchanged, digest_pieces, whole_form, told, needs_relocation, room_of, place_of, IsEdited, IsPlanned, OrRelocation, stays}
+use Rattle.xmp_files.specs.Plans.{packet_of, least_of, padding, fits, exchanged, digest_pieces, whole_form, told, needs_relocation, room_of, place_of, Apart, NoStray, IsEdited, IsPlanned, OrRelocation, stays}
 use Rattle.xmp_base.specs.declared.file_span.FileSpan.{FileSpan}
 use Rattle.xmp_files.specs.Loads.{PayloadLies, IsOfSize}
 use Rattle.xmp_files.specs.Patching.{IsLeft, IsPatchPlan, PatchCall, DocumentOrFault, FileIsPatched, new_payload}
@@ -159,13 +152,24 @@ module _ (decided : DocumentOrFault) (need : Need) (old : List ℕ) (kept : Kept
       | inr (inr closed) ↦ inr (inr (closed_by closed (loaded_as need old kept loaded)))
     ]
 
+-- a file that is changed in its place has no portion that could stray
+apart_any : (container : Container) → Apart container
+apart_any Text = tt
+apart_any (Segments regions) = tt
+
+stray_near : (file : List ℕ) (container : Container) (joined : List FileSpan) (e : Edited) (pieces : List Piece) → NoStray file container joined e (InPlace pieces)
+stray_near file Text joined e pieces = tt
+stray_near file (Segments regions) joined e pieces = tt
+
 pub file_patched : DocumentOrFault → FileIsPatched
 file_patched decided need old kept joined e plan loaded fixed planned holds may payload there now as_long left = by_plan (patch_plan kept joined e plan fixed planned)
   where
     by_plan : (plan ≡ Same) ⊎ IsExchange kept.payload e plan → IsWhole e.old e.new (Some (put_at old payload.at now))
     by_plan (inl same) = inl (left_old decided need old kept e plan loaded holds payload there now as_long (subst (λ (p : Plan). IsLeft payload.bytes p now) same left))
     by_plan (inr x) =
-        exchange_left decided need old kept e plan loaded holds payload there now as_long (file_written need old kept joined true e plan loaded planned holds may).0 x left
+        let written = (file_written need old kept joined true e plan loaded planned holds may).0 in
+        let stray = subst (NoStray old kept.container kept.portions e) (sym x.is) (stray_near old kept.container kept.portions e _) in
+        exchange_left decided need old kept e plan loaded holds payload there now as_long (written (apart_any kept.container) stray) x left
 
 -- what `patch` needs to exchange a packet, and what that does
 pub record PutFacts (size : ℕ) (payload : Option Piece) (plan : Plan) (at : ℕ) (old new : List ℕ) : Type 0 where

@@ -9,7 +9,7 @@ use Rattle.xmp_values.specs.declared.hints.Hint.{Hint}
 use Rattle.xmp_write.specs.declared.forms.Form.{Form}
 use Rattle.xmp_write.specs.Prefixes.{prefixes}
 use Rattle.xmp_write.specs.WrittenPackets.{least_len, packet}
-use Rattle.xmp_files.specs.Faults.{packet_limit, not_built}
+use Rattle.xmp_files.specs.Faults.{packet_limit}
 use Rattle.std.specs.declared.option.Option.{Option}
 use Rattle.std.proofs.lemmas.Bool.{and_parts}
 use Rattle.xmp_values.specs.declared.stops.FaultStop.{FaultStop}
@@ -20,8 +20,8 @@ use Rattle.jpeg_regions.specs.Jpeg.{Region}
 use Rattle.jpeg_relocation.specs.NewSegments.{main_limit}
 use Rattle.xmp_files.specs.declared.plans.Exchange.{Exchange}
 use Rattle.xmp_files.specs.Planning.{Edited, New, Plan, Same, InPlace, Relocated}
-use Rattle.xmp_files.specs.Plans.{packet_of, room_of, put_over, told, padding, least_of, whole_form, unmoved, IsRelocation, OrRelocation, IsMoved, IsPlanned, stays, fits, exchanged, digest_pieces, put_among, segment_padded, segments_text}
-use Rattle.xmp_files.specs.Planneds.{AmongAnswer, MoveAnswer, PlanAnswer, plan_of}
+use Rattle.xmp_files.specs.Plans.{packet_of, room_of, put_over, told, padding, least_of, whole_form, unmoved, IsDivided, IsRelocation, OrRelocation, IsMoved, IsPlanned, stays, fits, exchanged, digest_pieces, put_among, segment_padded, segments_text}
+use Rattle.xmp_files.specs.Planneds.{AmongAnswer, DivideAnswer, MoveAnswer, PlanAnswer, plan_of}
 
 -- a packet that fits is put over the payload
 pub placed : (payload : Option Piece) (container : Container) (joined : Bool) (least : ℕ) (e : Edited) → fits payload joined least ≡ true
@@ -91,10 +91,12 @@ anew_relocation : (container : Container) (portions : List FileSpan) (e : Edited
 anew_relocation Text portions e padded bytes text padded_is is = ap (λ (l : List ℕ). ok_plan (Relocated (New l ∷ []))) (is ∙ ap (packet_of e) padded_is)
 anew_relocation (Segments regions) portions e padded bytes text padded_is is = absurd (cc text)
 
-unbuilt_relocation : (container : Container) (portions : List FileSpan) (e : Edited) (regions : List Region) (fault : Fault) → regions_in container ≡ Some regions → main_limit < least_of e → fault ≡ not_built
-    → IsRelocation container portions e (Err fault)
-unbuilt_relocation Text portions e regions fault segments long is = absurd (cc segments)
-unbuilt_relocation (Segments others) portions e regions fault segments long is = inr (long, ap (λ (f : Fault). let r : Result Plan Fault = Err f in r) is)
+divided_relocation : (container : Container) (portions : List FileSpan) (e : Edited) (regions : List Region) (step : Result Plan Fault) → regions_in container ≡ Some regions → main_limit < least_of e
+    → IsDivided regions portions e.new e.hints step → IsRelocation container portions e step
+divided_relocation Text portions e regions step segments long is = absurd (cc segments)
+divided_relocation (Segments others) portions e regions step segments long is =
+    let same : regions ≡ others = (let h : Some others ≡ Some regions = segments in sym cc) in
+    inr (long, subst (λ (rs : List Region). IsDivided rs portions e.new e.hints step) same is)
 
 among_relocation : (container : Container) (portions : List FileSpan) (e : Edited) (regions : List Region) (step : Result Plan Fault) → regions_in container ≡ Some regions → least_of e ≤ main_limit
     → step ≡ put_among regions portions (segments_text (packet_of e (segment_padded (least_of e))) None) → IsRelocation container portions e step
@@ -125,12 +127,19 @@ module _ (payload : Option Piece) (container : Container) (portions : List FileS
       (not_fitting payload container portions joined e least (Ok (Relocated (New bytes ∷ []))) numbers.0 numbers.1 fit
       (anew_relocation container portions e padded bytes text (padded_small (least_of e) least padded numbers.0 numbers.1 padded_is) (is ∙ same))))
 
-  -- a tree that is too long for a segment isn't split yet
-  pub unbuilt_moved : (regions : List Region) (fault : Fault) → regions_in container ≡ Some regions → main_limit < least → fault ≡ not_built → IsMoved payload container portions joined patch e (Err fault)
-  unbuilt_moved regions fault segments long is =
-      subst (λ (b : Bool). IsMoved payload container portions joined b e (Err fault)) (sym anew)
-      (not_fitting payload container portions joined e least (Err fault) numbers.0 numbers.1 fit
-      (unbuilt_relocation container portions e regions fault segments (omega (arith, long, numbers.0)) is))
+  -- a tree that is too long for a segment is divided
+  divided_moved : (regions : List Region) (step : Result Plan Fault) → regions_in container ≡ Some regions → main_limit < least → IsDivided regions portions e.new e.hints step
+      → IsMoved payload container portions joined patch e step
+  divided_moved regions step segments long is =
+      subst (λ (b : Bool). IsMoved payload container portions joined b e step) (sym anew)
+      (not_fitting payload container portions joined e least step numbers.0 numbers.1 fit
+      (divided_relocation container portions e regions step segments (omega (arith, long, numbers.0)) is))
+
+  pub divided_answer : (regions : List Region) (result : Result Exchange FaultStop) → regions_in container ≡ Some regions → main_limit < least → DivideAnswer regions portions e.new e.hints result
+      → MoveAnswer payload container portions joined patch e result
+  divided_answer regions (Ok exchange) segments long is = divided_moved regions (Ok (plan_of exchange)) segments long is
+  divided_answer regions (Err (faults.Fault fault)) segments long is = divided_moved regions (Err fault) segments long is
+  divided_answer regions (Err faults.Memory) segments long is = tt
 
   -- the packet of the whole tree stands in a segment
   pub among_moved : (regions : List Region) (step : Result Plan Fault) → regions_in container ≡ Some regions → least ≤ main_limit

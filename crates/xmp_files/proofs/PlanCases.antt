@@ -1,12 +1,12 @@
 -- What becomes of an edited file, by cases.
-use Rattle.std.proofs.Common.{◌≡◌, ◌⊎◌, ℕ, ◌+◌, ◌≤◌, Bool, true, false, List, [], ◌∷◌, ◌++◌, length, Some, None, Ok, Err, refl, inl, inr, ap, ◌∙◌, if◌then◌else◌}
-use Rattle.std.specs.Prelude.{◌≢◌, not, nat_le, nat_lt, ◌&&◌}
+use Rattle.std.proofs.Common.{◌≡◌, ◌⊎◌, ℕ, ◌+◌, ◌<◌, ◌≤◌, Bool, true, false, List, [], ◌∷◌, ◌++◌, length, Some, None, Ok, Err, refl, inl, inr, ap, ◌∙◌, if◌then◌else◌}
+use Rattle.std.specs.Prelude.{◌≢◌, not, nat_le, nat_lt}
 use Rattle.std.specs.declared.option.Option.{Option}
-use Rattle.std.specs.declared.result.Result.{Result}
 use Rattle.std.proofs.lemmas.Bool.{and_parts, leb-true, ltb-false}
 use Rattle.xmp_values.specs.declared.faults.Fault.{Fault}
 use Rattle.xmp_packets.specs.Packets.{is_writable}
-use Rattle.xmp_files.specs.Faults.{file_limit, packet_limit, over_packet, not_built}
+use Rattle.xmp_write.specs.Splits.{IsSplit}
+use Rattle.xmp_files.specs.Faults.{file_limit, packet_limit, over_packet, over_extended}
 use Rattle.xmp_files.specs.Keeping.{Piece, Container, Text, Segments, Kept}
 use Rattle.xmp_base.specs.declared.file_span.FileSpan.{FileSpan}
 use Rattle.jpeg_regions.specs.Jpeg.{Region}
@@ -14,7 +14,7 @@ use Rattle.jpeg_relocation.specs.declared.pictures.MovedPictures.{MovedPictures}
 use Rattle.jpeg_relocation.specs.NewSegments.{main_limit}
 use Rattle.jpeg_relocation.specs.Pictures.{moved_pictures}
 use Rattle.xmp_files.specs.Planning.{Edited, Part, New, parts_len, Plan, Same, InPlace, Relocated}
-use Rattle.xmp_files.specs.Plans.{IsRelocation, OrRelocation, IsEdited, IsPlanned, packet_of, least_of, padding, stays, fits, fits_payload, exchanged, digest_pieces, whole_form, told, needs_relocation, room_of, after_pictures, over_out, parts_around, unless_moved, segment_padded, segments_text, IsRelocated}
+use Rattle.xmp_files.specs.Plans.{IsRelocation, OrRelocation, IsEdited, IsPlanned, packet_of, least_of, padding, stays, fits, fits_payload, exchanged, digest_pieces, whole_form, told, needs_relocation, room_of, after_pictures, over_out, parts_around, unless_moved, put_among, segment_padded, segments_text, rest_text, front_packet, over_segment, IsDivided, IsRelocated}
 use Rattle.xmp_files.proofs.PacketLengths.{length-packet}
 
 -- the packet of a plan that exchanges it
@@ -39,12 +39,23 @@ pub record IsAmong (container : Container) (portions : List FileSpan) (e : Edite
   pub is : plan ≡ Relocated (parts_around regions portions (segments_text (packet_of e (segment_padded (least_of e))) None))
   pub within : parts_len (parts_around regions portions (segments_text (packet_of e (segment_padded (least_of e))) None)) ≤ file_limit
 
+-- a JPEG file that is relocated with the tree in two texts
+pub record IsBoth (container : Container) (portions : List FileSpan) (e : Edited) (plan : Plan) : Type 0 where
+  pub regions : List Region
+  pub segments : container ≡ Segments regions
+  pub long : main_limit < least_of e
+  pub count : ℕ
+  pub split : IsSplit e.new e.hints main_limit count
+  pub short : length (rest_text e.new e.hints count) ≤ packet_limit
+  pub is : plan ≡ Relocated (parts_around regions portions (segments_text (front_packet e.new e.hints count) (Some (rest_text e.new e.hints count))))
+  pub within : parts_len (parts_around regions portions (segments_text (front_packet e.new e.hints count) (Some (rest_text e.new e.hints count)))) ≤ file_limit
+
 -- The bytes stay, with no piece at all in a place of theirs, where the tree does; a tree that changes has its packet exchanged, or a new
 -- file.
 abbrev pub Becomes : Option Piece → Container → List FileSpan → Edited → Plan → Type 0
 Becomes payload container portions e plan =
     ((e.new ≡ e.old) × ((plan ≡ Same) ⊎ (plan ≡ InPlace [])))
-    ⊎ ((e.new ≢ e.old) × (IsExchange payload e plan ⊎ (IsAnew container e plan ⊎ IsAmong container portions e plan)))
+    ⊎ ((e.new ≢ e.old) × (IsExchange payload e plan ⊎ (IsAnew container e plan ⊎ (IsAmong container portions e plan ⊎ IsBoth container portions e plan))))
 
 pub no_digest : (container : Container) (digest : Option (List ℕ)) → digest_pieces container digest ≡ []
 no_digest Text digest = refl
@@ -82,15 +93,28 @@ among_cases : (o : Option MovedPictures) (parts : List Part) (plan : Plan) → O
 among_cases (Some moved) parts plan h = absurd (let bad : Ok plan ≡ Err (after_pictures moved) = h in cc)
 among_cases None parts plan h = among_by (nat_lt file_limit (parts_len parts)) parts (over_out (told (parts_len parts))) plan refl h
 
-among_of : (regions : List Region) (portions : List FileSpan) (e : Edited) (plan : Plan) → IsRelocated regions portions e (Ok plan) → IsAmong (Segments regions) portions e plan
+both_of : (over : Bool) (f : Fault) (regions : List Region) (portions : List FileSpan) (new : List ℕ) (plan : Plan) → Ok plan ≡ (if over then Err f else put_among regions portions new)
+    → (over ≡ false) × (parts_len (parts_around regions portions new) ≤ file_limit) × (plan ≡ Relocated (parts_around regions portions new))
+both_of true f regions portions new plan h = absurd (cc h)
+both_of false f regions portions new plan h =
+    let c = among_cases (moved_pictures portions regions (length new)) (parts_around regions portions new) plan h in (refl, c.0, c.1)
+
+divided_of : (regions : List Region) (portions : List FileSpan) (e : Edited) (plan : Plan) → main_limit < least_of e → IsDivided regions portions e.new e.hints (Ok plan) → IsBoth (Segments regions) portions e plan
+divided_of regions portions e plan long (inl (k, split, h)) =
+    let rest : List ℕ = rest_text e.new e.hints k in
+    let c = both_of (nat_lt packet_limit (length rest)) (over_extended (told (length rest))) regions portions (segments_text (front_packet e.new e.hints k) (Some rest)) plan h in
+    record { regions = regions; segments = refl; long = long; count = k; split = split; short = ltb-false packet_limit (length rest) c.0; is = c.2; within = c.1 }
+divided_of regions portions e plan long (inr (least, never, h)) = absurd (let bad : Ok plan ≡ Err (over_segment least) = h in cc)
+
+among_of : (regions : List Region) (portions : List FileSpan) (e : Edited) (plan : Plan) → IsRelocated regions portions e (Ok plan) → IsAmong (Segments regions) portions e plan ⊎ IsBoth (Segments regions) portions e plan
 among_of regions portions e plan (inl h) =
     let new : List ℕ = segments_text (packet_of e (segment_padded (least_of e))) None in
     let c = among_cases (moved_pictures portions regions (length new)) (parts_around regions portions new) plan h.1 in
-    record { regions = regions; segments = refl; fits = h.0; is = c.1; within = c.0 }
-among_of regions portions e plan (inr h) = absurd (let bad : Ok plan ≡ Err not_built = h.1 in cc)
+    inl (record { regions = regions; segments = refl; fits = h.0; is = c.1; within = c.0 })
+among_of regions portions e plan (inr h) = inr (divided_of regions portions e plan h.0 h.1)
 
 anew_of : (container : Container) (portions : List FileSpan) (e : Edited) (plan : Plan) → least_of e + padding ≤ packet_limit → IsRelocation container portions e (Ok plan)
-    → IsAnew container e plan ⊎ IsAmong container portions e plan
+    → IsAnew container e plan ⊎ (IsAmong container portions e plan ⊎ IsBoth container portions e plan)
 anew_of Text portions e plan within h = inl (record { text = refl; within = within; is = let is : Ok plan ≡ Ok (Relocated (New (packet_of e (least_of e + padding)) ∷ [])) = h in cc })
 anew_of (Segments regions) portions e plan within h = inr (among_of regions portions e plan h)
 
@@ -113,7 +137,7 @@ edited_cases payload container portions joined patch e plan (inr h) =
     )
   where
     by_case : ((fits payload joined (least_of e) ≡ true) × (plan ≡ InPlace (exchanged payload e ++ digest_pieces container e.digest)))
-        ⊎ ((nat_lt packet_limit (least_of e + padding) ≡ false) × IsRelocation container portions e (Ok plan)) → IsExchange payload e plan ⊎ (IsAnew container e plan ⊎ IsAmong container portions e plan)
+        ⊎ ((nat_lt packet_limit (least_of e + padding) ≡ false) × IsRelocation container portions e (Ok plan)) → IsExchange payload e plan ⊎ (IsAnew container e plan ⊎ (IsAmong container portions e plan ⊎ IsBoth container portions e plan))
     by_case (inl c) = inl (exchange_of payload container joined e plan c.0 c.1)
     by_case (inr c) = inr (anew_of container portions e plan (ltb-false packet_limit (least_of e + padding) c.0) c.1)
 

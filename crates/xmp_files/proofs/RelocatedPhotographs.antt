@@ -1,6 +1,6 @@
--- A JPEG file that is relocated with the packet of a tree is read as that tree, and keeps its regions.
-use Rattle.std.proofs.Common.{◌≡◌, ◌∙◌, ℕ, ◌+◌, ◌-◌, ◌<◌, ◌≤◌, min, Bool, false, cond, List, [], ◌∷◌, ◌++◌, length, take, drop, refl, sym, ap, subst, arith, inr, Some, None, Ok, Err, append_assoc, length-append}
-use Rattle.std.specs.Prelude.{map, flat_map, nat_lt, slice_get}
+-- A JPEG file that is relocated with the packet of a tree, or with it in two texts, is read as that tree, and keeps its regions.
+use Rattle.std.proofs.Common.{◌≡◌, ◌∙◌, ℕ, ◌+◌, ◌-◌, ◌<◌, ◌≤◌, Bool, false, true, cond, List, [], ◌∷◌, ◌++◌, length, take, drop, refl, sym, ap, subst, arith, inr, Some, None, Ok, Err, length-append}
+use Rattle.std.specs.Prelude.{map, flat_map, slice_get}
 use Rattle.std.specs.Option.{option_map, ok_or}
 use Rattle.std.specs.declared.option.Option.{Option}
 use Rattle.std.specs.declared.result.Result.{Result}
@@ -13,36 +13,43 @@ use Rattle.xmp_values.specs.declared.faults.Fault.{Fault}
 use Rattle.xmp_values.specs.declared.hints.Hint.{Hint}
 use Rattle.xmp_tree.specs.Parts.{Parts}
 use Rattle.rdf_forms.specs.Meaning.{Meaning}
-use Rattle.round_trip.specs.Law.{PacketMeans}
+use Rattle.rdf_forms.specs.Merging.{both, merged}
+use Rattle.round_trip.specs.Law.{TextMeans, PacketMeans}
 use Rattle.jpeg_regions.specs.Kinds.{packet_signature}
 use Rattle.jpeg_regions.specs.Jpeg.{Region, Jpeg as IsJpeg, Cuts, mains, portion_payloads, span}
 use Rattle.jpeg_regions.proofs.Places.{cuts_tile}
-use Rattle.jpeg_extended.specs.FromDesk.{payload_at}
+use Rattle.jpeg_extended.specs.FromDesk.{payload_at, named_at, portions_at}
+use Rattle.jpeg_extended.specs.Joined.{Joined}
+use Rattle.jpeg_extended.specs.Portions.{Portion}
+use Rattle.jpeg_extended.specs.Tiling.{limit}
+use Rattle.jpeg_extended.specs.Written.{name_text, portions_of}
+use Rattle.jpeg_extended.proofs.NewPortions.{new_joined}
 use Rattle.jpeg_relocation.specs.Relocation.{part_of, before, after}
 use Rattle.jpeg_relocation.specs.Runs.{runs}
 use Rattle.jpeg_relocation.specs.NewSegments.{main_limit, main_payload_text}
-use Rattle.jpeg_relocation.specs.Laws.{new_file, new_list, new_portions}
+use Rattle.jpeg_relocation.specs.Laws.{IsText, NoStray, new_file, new_list, new_portions}
 use Rattle.jpeg_relocation.proofs.Pieces.{runs_are_pieces}
-use Rattle.jpeg_relocation.proofs.Relocated.{new_file_is_cut, main_is_packet, kept_is_same}
+use Rattle.jpeg_relocation.proofs.Relocated.{new_file_is_cut, main_is_packet, kept_is_same, portions_are_new}
 use Rattle.xmp_files.specs.declared.kinds.Kind.{Kind}
 use Rattle.xmp_files.specs.declared.kinds.Kind.TheVariants.{Jpeg}
-use Rattle.xmp_files.specs.declared.held.Need.{Need}
 use Rattle.xmp_files.specs.declared.held.Need.TheVariants.{Packet}
+use Rattle.xmp_files.specs.declared.held.Extended.{Extended}
+use Rattle.xmp_files.specs.declared.held.Extended.TheVariants as extended
 use Rattle.xmp_files.specs.declared.opening.Opened.{Opened}
 use Rattle.xmp_files.specs.Faults.{file_limit, over_limit, not_known, packet_limit, over_packet}
 use Rattle.xmp_files.specs.Kinds.{kind_of}
 use Rattle.xmp_files.specs.Stages.{followed, Followed}
 use Rattle.xmp_files.specs.Keeping.{Piece, Kept, photograph}
 use Rattle.xmp_files.specs.Meanings.{IsNote, IsNoteOf}
-use Rattle.xmp_files.specs.Photographs.{piece_at, main_payload, packet_range, main_packet, IsPhotograph}
-use Rattle.xmp_files.specs.Loading.{known, kind_of_file, IsKept, IsLoaded}
-use Rattle.xmp_files.specs.Opening.{IsOpened, HoldsTree}
+use Rattle.xmp_files.specs.Photographs.{piece_at, packet_range, main_packet, IsName, IsExtended, named_portions, portions_in, IsPhotograph}
+use Rattle.xmp_files.specs.Loading.{known, kind_of_file, limited_by, IsKept, IsLoaded}
+use Rattle.xmp_files.specs.Opening.{with_both, merged_to, IsOpened, HoldsTree}
 use Rattle.xmp_files.specs.Planning.{Part, Old, New, part_bytes, part_len, parts_bytes, parts_len, KeepsRegions}
 use Rattle.xmp_files.specs.Plans.{parts_around, segments_text}
 use Rattle.xmp_files.proofs.KeptLie.{SpansLie, before_lie, after_lie}
 use Rattle.xmp_files.proofs.LoadedPhotographs.{unnamed}
-use Rattle.xmp_files.proofs.WrittenSidecars.{meant, opens}
-use Rattle.xmp_files.proofs.WrittenPhotographs.{noteless}
+use Rattle.xmp_files.proofs.WrittenSidecars.{meant, means, opens}
+use Rattle.xmp_files.proofs.WrittenPhotographs.{noted_as}
 
 -- The parts of a relocated file have its bytes.
 
@@ -53,11 +60,11 @@ old_bytes file (s ∷ ss) = ap (λ (l : List ℕ). payload_at file s ++ l) (old_
 head_bytes : (file rest : List ℕ) → file ≡ 0xFF ∷ 0xD8 ∷ rest → payload_at file (span 0 2) ≡ 0xFF ∷ 0xD8 ∷ []
 head_bytes file rest is = ap (λ (l : List ℕ). payload_at l (span 0 2)) is
 
-pub around_bytes : (file : List ℕ) (joined : List FileSpan) (regions : List Region) (packet : List ℕ) → Cuts file regions
-    → parts_bytes file (parts_around regions joined (segments_text packet None)) ≡ new_file file joined regions packet None
-around_bytes file joined regions packet cuts =
+pub around_bytes : (file : List ℕ) (joined : List FileSpan) (regions : List Region) (packet : List ℕ) (extended : Option (List ℕ)) → Cuts file regions
+    → parts_bytes file (parts_around regions joined (segments_text packet extended)) ≡ new_file file joined regions packet extended
+around_bytes file joined regions packet extended cuts =
     let pieces = runs_are_pieces file joined regions cuts in
-    let new : List ℕ = segments_text packet None in
+    let new : List ℕ = segments_text packet extended in
     let first : parts_bytes file (map (λ (r : FileSpan). Old r) (runs (before joined regions))) ≡ flat_map (part_of file) (before joined regions) = old_bytes file (runs (before joined regions)) ∙ pieces.0 in
     let last : parts_bytes file (map (λ (r : FileSpan). Old r) (runs (after joined regions))) ≡ flat_map (part_of file) (after joined regions) = old_bytes file (runs (after joined regions)) ∙ pieces.1 in
     flat_map-append (part_bytes file) (Old (span 0 2) ∷ map (λ (r : FileSpan). Old r) (runs (before joined regions))) (New new ∷ map (λ (r : FileSpan). Old r) (runs (after joined regions)))
@@ -76,11 +83,11 @@ spans_len file (s ∷ ss) lie =
       sum_by-cons part_len (Old s) (map (λ (r : FileSpan). Old r) ss),
     )
 
-pub around_len : (file : List ℕ) (joined : List FileSpan) (regions : List Region) (packet : List ℕ) → Cuts file regions
-    → length (parts_bytes file (parts_around regions joined (segments_text packet None))) ≡ parts_len (parts_around regions joined (segments_text packet None))
-around_len file joined regions packet cuts =
+pub around_len : (file : List ℕ) (joined : List FileSpan) (regions : List Region) (packet : List ℕ) (extended : Option (List ℕ)) → Cuts file regions
+    → length (parts_bytes file (parts_around regions joined (segments_text packet extended))) ≡ parts_len (parts_around regions joined (segments_text packet extended))
+around_len file joined regions packet extended cuts =
     let tiles = cuts_tile file regions cuts in
-    let new : List ℕ = segments_text packet None in
+    let new : List ℕ = segments_text packet extended in
     let first : List Part = map (λ (r : FileSpan). Old r) (runs (before joined regions)) in
     let last : List Part = map (λ (r : FileSpan). Old r) (runs (after joined regions)) in
     let head : length (payload_at file (span 0 2)) ≡ 2 = ap length (head_bytes file _ cuts.bytes) in
@@ -127,20 +134,21 @@ module _ (file now : List ℕ) (p : FileSpan) (held : payload_at file p ≡ main
       let bytes : (piece_at file (packet_range p)).bytes ≡ now = ap (λ (n : ℕ). take (p.end - n) (drop n file)) start_is ∙ packet_bytes in
       λ i. record { at = start_is i; bytes = bytes i }
 
-module _ (old : List ℕ) (regions : List Region) (joined : List FileSpan) (jpeg : IsJpeg old regions) (now : List ℕ) (limited : length now ≤ main_limit) where
-  abbrev file : List ℕ
-  file = new_file old joined regions now None
+-- What is true of the new file, with an extended text or without.
+module _ (old : List ℕ) (regions : List Region) (joined : List FileSpan) (jpeg : IsJpeg old regions) (now : List ℕ) (text : Option (List ℕ)) (limited : length now ≤ main_limit) (held : IsText text) where
+  abbrev pub file : List ℕ
+  file = new_file old joined regions now text
 
-  abbrev list : List Region
-  list = new_list joined regions now None
+  abbrev pub list : List Region
+  list = new_list joined regions now text
 
   cut : IsJpeg file list
-  cut = new_file_is_cut old joined regions now None jpeg limited tt
+  cut = new_file_is_cut old joined regions now text jpeg limited held
 
-  main : (r : Region) × (slice_get (mains list) 0 ≡ Some r) × (payload_at file r.payload ≡ main_payload_text now)
-  main = one_main (mains list) (λ (r : Region). payload_at file r.payload) (main_payload_text now) (main_is_packet old joined regions now None jpeg limited tt)
+  pub main : (r : Region) × (slice_get (mains list) 0 ≡ Some r) × (payload_at file r.payload ≡ main_payload_text now)
+  main = one_main (mains list) (λ (r : Region). payload_at file r.payload) (main_payload_text now) (main_is_packet old joined regions now text jpeg limited held)
 
-  abbrev payload : Piece
+  abbrev pub payload : Piece
   payload = record { at = main.0.payload.start + 29; bytes = now }
 
   packet_is : main_packet file list ≡ Some payload
@@ -149,39 +157,104 @@ module _ (old : List ℕ) (regions : List Region) (joined : List FileSpan) (jpeg
       ∙ ap (λ (q : Piece). Some q) (piece_is file now main.0.payload main.2)
 
   pub keeps_regions : KeepsRegions old regions joined file
-  keeps_regions = record { list = list; jpeg = cut; added = new_portions joined regions now None; same = kept_is_same old joined regions now None jpeg limited tt }
+  keeps_regions = record { list = list; jpeg = cut; added = new_portions joined regions now text; same = kept_is_same old joined regions now text jpeg limited held }
 
-  abbrev kept_now : Kept
-  kept_now = photograph Packet (length file) list (Some payload) [] None
-
-  is_photograph : IsNote (Some payload) None → IsPhotograph Packet file kept_now
-  is_photograph note = record {
+  -- what is kept of it, by the name of its extended text
+  pub is_photograph : (note : Option (List ℕ)) (extended : Option Extended) → IsName (portion_payloads list) (Some payload) note
+      → IsExtended (portions_in file note (named_portions file note list)) extended → IsPhotograph Packet file (photograph Packet (length file) list (Some payload) (named_portions file note list) extended)
+  is_photograph note extended noted joins = record {
     regions = list;
     jpeg = cut;
-    note = None;
-    noted = unnamed (portion_payloads list) (main_packet file list) (subst (λ (o : Option Piece). IsNote o None) (sym packet_is) note);
-    extended = None;
-    joins = refl;
-    is = ap (λ (o : Option Piece). photograph Packet (length file) list o [] None) (sym packet_is);
+    note = note;
+    noted = subst (λ (o : Option Piece). IsName (portion_payloads list) o note) (sym packet_is) noted;
+    extended = extended;
+    joins = joins;
+    is = ap (λ (o : Option Piece). photograph Packet (length file) list o (named_portions file note list) extended) (sym packet_is);
   }
 
-  module _ (small : length file ≤ file_limit) where
-    there_is : kind_of_file (Some file) ≡ Ok Jpeg
-    there_is =
-        let kind_is : kind_of file ≡ Some Jpeg = refl in
-        ap (λ (b : Bool). followed (cond b (Err (over_limit (length file))) (Ok file)) known) (le-ltb file_limit (length file) small)
-        ∙ ap (λ (k : Option Kind). ok_or k not_known) kind_is
+  pub file_loaded : (kept : Kept) → kept.payload ≡ Some payload → length file ≤ file_limit → IsPhotograph Packet file kept → IsLoaded Packet (Some file) (Ok kept)
+  file_loaded kept there small p =
+      let kind_is : kind_of file ≡ Some Jpeg = refl in
+      let there_is : kind_of_file (Some file) ≡ Ok Jpeg =
+      ap (λ (b : Bool). followed (cond b (Err (over_limit (length file))) (Ok file)) known) (le-ltb file_limit (length file) small)
+      ∙ ap (λ (k : Option Kind). ok_or k not_known) kind_is in
+      let short : length now ≤ packet_limit = omega (arith, limited) in
+      let within : Ok kept ≡ limited_by kept (Some payload) =
+      ap (λ (b : Bool). cond b (Err (over_packet (length now))) (Ok kept)) (sym (le-ltb packet_limit (length now) short)) in
+      let step : Ok kept ≡ limited_by kept kept.payload = within ∙ ap (limited_by kept) (sym there) in
+      subst (λ (x : Result Kind Fault). Followed x (IsKept Packet file) (Ok kept)) (sym there_is) (Ok kept, p, step)
 
-    relocated_loaded : IsNoteOf now None → IsLoaded Packet (Some file) (Ok kept_now)
-    relocated_loaded note =
-        let short : length now ≤ packet_limit = omega (arith, limited) in
-        let within : Ok kept_now ≡ cond (nat_lt packet_limit (length now)) (Err (over_packet (length now))) (Ok kept_now) =
-        ap (λ (b : Bool). cond b (Err (over_packet (length now))) (Ok kept_now)) (sym (le-ltb packet_limit (length now) short)) in
-        subst (λ (x : Result Kind Fault). Followed x (IsKept Packet file) (Ok kept_now)) (sym there_is) (Ok kept_now, is_photograph (inr (short, note)), within)
+-- without an extended text
+module _ (old : List ℕ) (regions : List Region) (joined : List FileSpan) (jpeg : IsJpeg old regions) (now : List ℕ) (limited : length now ≤ main_limit) where
+  abbrev file_now : List ℕ
+  file_now = new_file old joined regions now None
 
-    pub relocated_holds : (declared : List Hint) (t : Parts) → PacketMeans now declared t None → HoldsTree (Some file) t
-    relocated_holds declared t h =
-        let meaning : Meaning = meant now declared t None h.means in
-        let opened : Opened = record { meaning = meaning; joined = false } in
-        let is_opened : IsOpened kept_now (Ok opened) = (Ok meaning, opens now declared t None h, refl) in
-        (opened, (Ok kept_now, relocated_loaded (noteless now declared t h), is_opened), h.means.tree_is 100 (omega arith))
+  abbrev payload_now : Piece
+  payload_now = payload old regions joined jpeg now None limited tt
+
+  abbrev kept_now : Kept
+  kept_now = photograph Packet (length file_now) (new_list joined regions now None) (Some payload_now) [] None
+
+  relocated_loaded : length file_now ≤ file_limit → IsNoteOf now None → IsLoaded Packet (Some file_now) (Ok kept_now)
+  relocated_loaded small note =
+      let short : length now ≤ packet_limit = omega (arith, limited) in
+      let payloads : List FileSpan = portion_payloads (new_list joined regions now None) in
+      file_loaded old regions joined jpeg now None limited tt kept_now refl small
+      (is_photograph old regions joined jpeg now None limited tt None None (unnamed payloads (Some payload_now) (inr (short, note))) refl)
+
+  pub relocated_holds : length file_now ≤ file_limit → (declared : List Hint) (t : Parts) → PacketMeans now declared t None → HoldsTree (Some file_now) t
+  relocated_holds small declared t h =
+      let meaning : Meaning = meant now declared t None h.means in
+      let opened : Opened = record { meaning = meaning; joined = false } in
+      let is_opened : IsOpened kept_now (Ok opened) = (Ok meaning, opens now declared t None h, refl) in
+      (opened, (Ok kept_now, relocated_loaded small (noted_as now declared t None h), is_opened), h.means.tree_is 100 (omega arith))
+
+-- with one
+module _ (old : List ℕ) (regions : List Region) (joined : List FileSpan) (jpeg : IsJpeg old regions) (now text : List ℕ) (limited : length now ≤ main_limit) (some : 0 < length text) (held : length text ≤ limit)
+    (none : NoStray old joined regions (name_text text)) where
+  abbrev file_both : List ℕ
+  file_both = new_file old joined regions now (Some text)
+
+  abbrev list_both : List Region
+  list_both = new_list joined regions now (Some text)
+
+  abbrev payload_both : Piece
+  payload_both = payload old regions joined jpeg now (Some text) limited held
+
+  abbrev portions : List FileSpan
+  portions = named_at file_both (name_text text) (portion_payloads list_both)
+
+  -- the portions of its name are those of the text
+  portions_are : portions_at file_both (name_text text) portions ≡ portions_of text
+  portions_are =
+      let found = portions_are_new old joined regions now text jpeg limited held none in
+      ap (portions_at file_both (name_text text)) found.0 ∙ found.1
+
+  joins : Joined (portions_of text) text
+  joins = new_joined text some held
+
+  named_by : (payloads : List FileSpan) → portions_at file_both (name_text text) (named_at file_both (name_text text) payloads) ≡ portions_of text → IsNote (Some payload_both) (Some (name_text text))
+      → IsName payloads (Some payload_both) (Some (name_text text))
+  named_by [] are note = absurd (let none_are : 0 ≡ length (portions_of text) = ap length are in omega (arith, none_are, joins.some))
+  named_by (p ∷ ps) are note = note
+
+  abbrev kept_both : Kept
+  kept_both = photograph Packet (length file_both) list_both (Some payload_both) portions (Some (extended.Joined text))
+
+  both_loaded : length file_both ≤ file_limit → IsNoteOf now (Some (name_text text)) → IsLoaded Packet (Some file_both) (Ok kept_both)
+  both_loaded small note =
+      let short : length now ≤ packet_limit = omega (arith, limited) in
+      file_loaded old regions joined jpeg now (Some text) limited held kept_both refl small
+      (is_photograph old regions joined jpeg now (Some text) limited held (Some (name_text text)) (Some (extended.Joined text))
+      (named_by (portion_payloads list_both) portions_are (inr (short, note))) (subst (λ (ps : List Portion). Joined ps text) (sym portions_are) joins))
+
+  pub both_hold : length file_both ≤ file_limit → (declared others : List Hint) (main more t : Parts) → PacketMeans now declared main (Some (name_text text)) → TextMeans text others more None
+      → ((m n : Meaning) → m.tree ≡ main → n.tree ≡ more → (merged m n ≡ Ok (both m n)) × ((both m n).tree ≡ t)) → HoldsTree (Some file_both) t
+  both_hold small declared others main more t h rest merge =
+      let m : Meaning = meant now declared main (Some (name_text text)) h.means in
+      let n : Meaning = meant text others more None rest in
+      let together = merge m n (h.means.tree_is 100 (omega arith)) (rest.tree_is 100 (omega arith)) in
+      let opened : Opened = record { meaning = both m n; joined = true } in
+      let step : Ok opened ≡ merged_to m (Ok n) = ap with_both (sym together.0) in
+      let is_opened : IsOpened kept_both (Ok opened) = (Ok m, opens now declared main (Some (name_text text)) h, (Ok n, means text others more None rest, step)) in
+      (opened, (Ok kept_both, both_loaded small (noted_as now declared main (Some (name_text text)) h), is_opened), together.1)

@@ -1,46 +1,54 @@
 -- Whatever the plan, the new file holds the new tree.
-use Rattle.std.proofs.Common.{◌≡◌, ◌⊎◌, ℕ, ◌+◌, ◌<◌, ◌≤◌, List, [], ◌∷◌, ◌++◌, length, Some, None, Ok, refl, inl, inr, arith, sym, ap, subst, ◌∙◌}
-use Rattle.std.specs.Prelude.{◌≢◌}
-use Rattle.std.specs.declared.option.Option.{Option}
+use Rattle.std.proofs.Common.{◌≡◌, ◌⊎◌, ℕ, ◌+◌, ◌<◌, ◌≤◌, List, [], ◌∷◌, ◌++◌, length, Some, None, Ok, refl, inl, inr, arith, sym, ap, subst, ◌∙◌, length-append}
 use Rattle.std.proofs.lemmas.List.{append-nil}
 use Rattle.xmp_base.specs.Device.{put_at}
 use Rattle.xmp_base.specs.declared.file_span.FileSpan.{FileSpan}
-use Rattle.xmp_packets.specs.Packets.{is_writable}
 use Rattle.xmp_write.specs.Prefixes.{prefixes}
-use Rattle.round_trip.specs.Law.{MayWrite, text_hints}
-use Rattle.round_trip.proofs.Meanings.{packet_reads_back}
-use Rattle.packet_exchange.specs.Closing.{is_open}
+use Rattle.xmp_write.specs.Splits.{rest_form}
+use Rattle.round_trip.specs.Law.{MayWrite, SplitMeans, text_hints}
+use Rattle.round_trip.proofs.Meanings.{packet_reads_back, split_reads_back}
 use Rattle.xmp_files.specs.declared.held.Need.{Need}
-use Rattle.xmp_files.specs.Faults.{packet_limit}
-use Rattle.xmp_files.specs.Keeping.{Piece, Container, Text, Segments, Kept, sidecar}
+use Rattle.xmp_files.specs.Faults.{file_limit, packet_limit}
+use Rattle.xmp_files.specs.Keeping.{Piece, Container, Text, Segments, Kept}
 use Rattle.xmp_files.specs.Loading.{IsLoaded}
 use Rattle.xmp_files.specs.Opening.{HoldsTree}
-use Rattle.jpeg_regions.specs.Jpeg.{Jpeg as IsJpeg}
+use Rattle.jpeg_regions.specs.Jpeg.{Region, Jpeg as IsJpeg}
+use Rattle.jpeg_extended.specs.Written.{name_text}
 use Rattle.jpeg_relocation.specs.NewSegments.{main_limit}
-use Rattle.jpeg_relocation.specs.Laws.{new_file}
+use Rattle.jpeg_relocation.specs.Laws.{NoStray as HasNoStray, new_file}
 use Rattle.xmp_files.specs.Planning.{Edited, Plan, Same, InPlace, Relocated, Agree, Frame, KeepsPictures, parts_bytes, parts_len, planned_file}
-use Rattle.xmp_files.specs.Plans.{IsPlanned, packet_of, least_of, padding, whole_form, segment_padded, segments_text, parts_around}
+use Rattle.xmp_files.specs.Plans.{packet_of, least_of, padding, whole_form, segment_padded, segments_text, parts_around, rest_text, named_front, front_least, front_packet, planned_len, MayPlan, Apart, NoStray}
 use Rattle.xmp_files.specs.Written.{FileIsWritten}
 use Rattle.xmp_files.proofs.Agreeing.{put_agrees}
 use Rattle.xmp_files.proofs.ExchangedPackets.{Stands, loaded_stands, same_piece, whole_piece}
 use Rattle.xmp_files.proofs.LoadedKept.{IsSidecarOf, IsPhotographOf, LoadedAs, loaded_as, loaded_small}
 use Rattle.xmp_files.proofs.OpenPackets.{writable_some}
 use Rattle.xmp_files.proofs.PacketLengths.{length-packet, over_all}
-use Rattle.xmp_files.proofs.PlanCases.{IsExchange, IsAnew, IsAmong, Becomes, planned_cases}
-use Rattle.xmp_files.proofs.RelocatedPhotographs.{around_bytes, around_len, relocated_holds, keeps_regions}
+use Rattle.xmp_files.proofs.PlanCases.{IsExchange, IsAnew, IsAmong, IsBoth, Becomes, planned_cases}
+use Rattle.xmp_files.proofs.DividedTexts.{front_may, rest_may, front_limited, rest_some}
+use Rattle.xmp_files.proofs.RelocatedPhotographs.{around_bytes, around_len, relocated_holds, both_hold, keeps_regions}
 use Rattle.xmp_files.proofs.WrittenPhotographs.{photograph_holds}
 use Rattle.xmp_files.proofs.WrittenSidecars.{sidecar_reads_back}
 
 -- what a new file is
 abbrev Good : Kept → List ℕ → Edited → Plan → Type 0
-Good kept old e plan = HoldsTree (Some (planned_file old plan)) e.new × Frame kept plan old (planned_file old plan)
+Good kept old e plan = HoldsTree (Some (planned_file old plan)) e.new × Frame kept plan old (planned_file old plan) × (length (planned_file old plan) ≡ planned_len (length old) plan)
+
+-- where no portion strays
+abbrev GoodUnstrayed : Kept → List ℕ → Edited → Plan → Type 0
+GoodUnstrayed kept old e plan =
+    (Apart kept.container → NoStray old kept.container kept.portions e plan → HoldsTree (Some (planned_file old plan)) e.new)
+    × Frame kept plan old (planned_file old plan) × (length (planned_file old plan) ≡ planned_len (length old) plan)
+
+always : (kept : Kept) (old : List ℕ) (e : Edited) (plan : Plan) → Good kept old e plan → GoodUnstrayed kept old e plan
+always kept old e plan good = (λ apart stray. good.0, good.1, good.2)
 
 same_bytes : (old : List ℕ) (pieces : List Piece) → Agree old old pieces
 same_bytes old pieces = record { size = refl; outside = λ place out. refl }
 
 stays_good : (kept : Kept) (old : List ℕ) (e : Edited) (plan : Plan) → (plan ≡ Same) ⊎ (plan ≡ InPlace []) → HoldsTree (Some old) e.new → Good kept old e plan
-stays_good kept old e plan (inl is) holds = subst (Good kept old e) (sym is) (holds, refl)
-stays_good kept old e plan (inr is) holds = subst (Good kept old e) (sym is) (holds, same_bytes old [])
+stays_good kept old e plan (inl is) holds = subst (Good kept old e) (sym is) (holds, refl, refl)
+stays_good kept old e plan (inr is) holds = subst (Good kept old e) (sym is) (holds, same_bytes old [], refl)
 
 -- a packet with padding is a whole new sidecar
 anew_frame : (container : Container) (portions : List FileSpan) (old new : List ℕ) → container ≡ Text → KeepsPictures container portions old new
@@ -53,6 +61,7 @@ anew_good kept old e plan may x =
     subst (Good kept old e) (sym x.is) (
       subst (λ (file : List ℕ). HoldsTree (Some file) e.new) (sym (append-nil (packet_of e (least_of e + padding)))) (sidecar_reads_back e.new e.hints (least_of e + padding) may (omega (arith, size, x.within))),
       anew_frame kept.container kept.portions old (packet_of e (least_of e + padding) ++ []) x.text,
+      omega (arith, length-append (packet_of e (least_of e + padding)) []),
     )
 
 -- The packet is exchanged.
@@ -90,7 +99,7 @@ module _ (need : Need) (old : List ℕ) (kept : Kept) (e : Edited) (plan : Plan)
   exchange_good =
       let agrees : Agree old (put_at old payload.at new) (record { at = payload.at; bytes = new } ∷ []) =
       put_agrees old payload.at new (omega (arith, stands.within, x.as_long)) (record { at = payload.at; bytes = new }) refl refl in
-      subst (Good kept old e) (sym x.is) (holds_by (loaded_as need old kept loaded), agrees)
+      subst (Good kept old e) (sym x.is) (holds_by (loaded_as need old kept loaded), agrees, agrees.size)
 
 -- A JPEG file is relocated.
 module _ (need : Need) (old : List ℕ) (kept : Kept) (e : Edited) (plan : Plan) (loaded : IsLoaded need (Some old) (Ok kept)) (may : MayWrite e.new e.hints (whole_form e.new))
@@ -106,28 +115,91 @@ module _ (need : Need) (old : List ℕ) (kept : Kept) (e : Edited) (plan : Plan)
       let same : x.regions ≡ p.is.regions = (let h : Segments x.regions ≡ Segments p.is.regions = sym x.segments ∙ ap (λ (k : Kept). k.container) p.is.is in cc) in
       let jpeg : IsJpeg old x.regions = subst (IsJpeg old) (sym same) p.is.jpeg in
       let is : parts_bytes old (parts_around x.regions kept.portions (segments_text among_packet None)) ≡ new_file old kept.portions x.regions among_packet None =
-      around_bytes old kept.portions x.regions among_packet jpeg.cuts in
+      around_bytes old kept.portions x.regions among_packet None jpeg.cuts in
       let size : length (new_file old kept.portions x.regions among_packet None) ≡ parts_len (parts_around x.regions kept.portions (segments_text among_packet None)) =
-      ap length (sym is) ∙ around_len old kept.portions x.regions among_packet jpeg.cuts in
+      ap length (sym is) ∙ around_len old kept.portions x.regions among_packet None jpeg.cuts in
       let holds : HoldsTree (Some (new_file old kept.portions x.regions among_packet None)) e.new =
       relocated_holds old x.regions kept.portions jpeg among_packet limited (omega (arith, size, x.within)) (text_hints e.new e.hints (whole_form e.new)) e.new
       (packet_reads_back e.new e.hints (segment_padded (least_of e)) may) in
       subst (Good kept old e) (sym x.is)
-      (subst (λ (file : List ℕ). HoldsTree (Some file) e.new × KeepsPictures kept.container kept.portions old file) (sym is) (
+      (subst (λ (file : List ℕ). HoldsTree (Some file) e.new × KeepsPictures kept.container kept.portions old file
+      × (length file ≡ parts_len (parts_around x.regions kept.portions (segments_text among_packet None)))) (sym is) (
         holds,
         subst (λ (c : Container). KeepsPictures c kept.portions old (new_file old kept.portions x.regions among_packet None)) (sym x.segments)
-            (keeps_regions old x.regions kept.portions jpeg among_packet limited),
+            (keeps_regions old x.regions kept.portions jpeg among_packet None limited tt),
+        size,
       ))
 
   among_by : LoadedAs need old kept → Good kept old e plan
   among_by (inl s) = absurd (let bad : Segments x.regions ≡ Text = sym x.segments ∙ ap (λ (k : Kept). k.container) s.is in cc bad)
   among_by (inr p) = among_good p
 
+-- A JPEG file is relocated with the tree in two texts.
+module _ (need : Need) (old : List ℕ) (kept : Kept) (e : Edited) (plan : Plan) (loaded : IsLoaded need (Some old) (Ok kept)) (may : MayPlan e.new e.hints)
+    (x : IsBoth kept.container kept.portions e plan) where
+  abbrev front : List ℕ
+  front = front_packet e.new e.hints x.count
+
+  abbrev rest : List ℕ
+  rest = rest_text e.new e.hints x.count
+
+  abbrev name : List ℕ
+  name = name_text rest
+
+  front_short : length front ≤ main_limit
+  front_short = front_limited e.new e.hints x.count x.split
+
+  means : SplitMeans e.new e.hints (named_front e.new e.hints x.count) (rest_form e.new x.count) (segment_padded (front_least e.new e.hints x.count)) name
+  means = split_reads_back e.new e.hints x.count name (segment_padded (front_least e.new e.hints x.count)) (front_may e.new e.hints may x.count x.split) (rest_may e.new e.hints may x.count x.split x.short)
+
+  stray_in : (container : Container) → container ≡ Segments x.regions → NoStray old container kept.portions e (Relocated (parts_around x.regions kept.portions (segments_text front (Some rest))))
+      → HasNoStray old kept.portions x.regions name
+  stray_in Text is stray = absurd (cc is)
+  stray_in (Segments regions) is stray =
+      let same : regions ≡ x.regions = (let h : Segments regions ≡ Segments x.regions = is in cc) in
+      subst (λ (rs : List Region). HasNoStray old kept.portions rs name) same (stray x.count x.long x.split)
+
+  module _ (p : IsPhotographOf need old kept) where
+    jpeg_both : IsJpeg old x.regions
+    jpeg_both =
+        let same : x.regions ≡ p.is.regions = (let h : Segments x.regions ≡ Segments p.is.regions = sym x.segments ∙ ap (λ (k : Kept). k.container) p.is.is in cc) in
+        subst (IsJpeg old) (sym same) p.is.jpeg
+
+    abbrev new_both : List ℕ
+    new_both = new_file old kept.portions x.regions front (Some rest)
+
+    bytes_both : parts_bytes old (parts_around x.regions kept.portions (segments_text front (Some rest))) ≡ new_both
+    bytes_both = around_bytes old kept.portions x.regions front (Some rest) jpeg_both.cuts
+
+    small_both : length new_both ≤ file_limit
+    small_both =
+        let size : length new_both ≡ parts_len (parts_around x.regions kept.portions (segments_text front (Some rest))) =
+        ap length (sym bytes_both) ∙ around_len old kept.portions x.regions front (Some rest) jpeg_both.cuts in omega (arith, size, x.within)
+
+    both_holds : HasNoStray old kept.portions x.regions name → HoldsTree (Some new_both) e.new
+    both_holds none =
+        both_hold old x.regions kept.portions jpeg_both front rest front_short (rest_some e.new e.hints x.count) x.short none small_both
+        (text_hints e.new e.hints (named_front e.new e.hints x.count)) (text_hints e.new e.hints (rest_form e.new x.count)) means.main means.more e.new means.packet_means means.text_means means.merged_is
+
+    both_good : GoodUnstrayed kept old e plan
+    both_good =
+        subst (GoodUnstrayed kept old e) (sym x.is) (
+          λ apart stray. subst (λ (file : List ℕ). HoldsTree (Some file) e.new) (sym bytes_both) (both_holds (stray_in kept.container x.segments stray)),
+          subst (λ (file : List ℕ). KeepsPictures kept.container kept.portions old file) (sym bytes_both)
+              (subst (λ (c : Container). KeepsPictures c kept.portions old new_both) (sym x.segments) (keeps_regions old x.regions kept.portions jpeg_both front (Some rest) front_short x.short)),
+          around_len old kept.portions x.regions front (Some rest) jpeg_both.cuts,
+        )
+
+  both_by : LoadedAs need old kept → GoodUnstrayed kept old e plan
+  both_by (inl s) = absurd (let bad : Segments x.regions ≡ Text = sym x.segments ∙ ap (λ (k : Kept). k.container) s.is in cc bad)
+  both_by (inr p) = both_good p
+
 pub file_written : FileIsWritten
 file_written need old kept joined patch e plan loaded planned holds may = by_case (planned_cases kept joined patch e plan planned)
   where
-    by_case : Becomes kept.payload kept.container kept.portions e plan → HoldsTree (Some (planned_file old plan)) e.new × Frame kept plan old (planned_file old plan)
-    by_case (inl h) = stays_good kept old e plan h.1 (subst (HoldsTree (Some old)) (sym h.0) holds)
-    by_case (inr (differs, inl x)) = exchange_good need old kept e plan loaded (may differs) x
-    by_case (inr (differs, inr (inl x))) = anew_good kept old e plan (may differs) x
-    by_case (inr (differs, inr (inr x))) = among_by need old kept e plan loaded (may differs) x (loaded_as need old kept loaded)
+    by_case : Becomes kept.payload kept.container kept.portions e plan → GoodUnstrayed kept old e plan
+    by_case (inl h) = always kept old e plan (stays_good kept old e plan h.1 (subst (HoldsTree (Some old)) (sym h.0) holds))
+    by_case (inr (differs, inl x)) = always kept old e plan (exchange_good need old kept e plan loaded (may differs).whole x)
+    by_case (inr (differs, inr (inl x))) = always kept old e plan (anew_good kept old e plan (may differs).whole x)
+    by_case (inr (differs, inr (inr (inl x)))) = always kept old e plan (among_by need old kept e plan loaded (may differs).whole x (loaded_as need old kept loaded))
+    by_case (inr (differs, inr (inr (inr x)))) = both_by need old kept e plan loaded (may differs) x (loaded_as need old kept loaded)

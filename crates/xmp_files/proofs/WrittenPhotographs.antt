@@ -1,5 +1,6 @@
 -- A JPEG file whose packet is exchanged for that of a tree is read as that tree.
 use Rattle.std.proofs.Common.{◌≡◌, ℕ, ◌<◌, ◌≤◌, false, List, length, Some, None, Ok, refl, sym, subst, arith}
+use Rattle.std.specs.declared.option.Option.{Option}
 use Rattle.xmp_base.specs.Device.{put_at}
 use Rattle.xmp_values.specs.declared.hints.Hint.{Hint}
 use Rattle.xmp_tree.specs.Parts.{Parts}
@@ -15,11 +16,11 @@ use Rattle.xmp_files.specs.Photographs.{IsPhotograph}
 use Rattle.xmp_files.proofs.ExchangedPackets.{exchanged_kept, exchanged_loaded}
 use Rattle.xmp_files.proofs.WrittenSidecars.{meant, means, opens}
 
--- a packet that means a tree and no note names no extended text
-pub noteless : (bytes : List ℕ) (declared : List Hint) (t : Parts) → PacketMeans bytes declared t None → IsNoteOf bytes None
-noteless bytes declared t h = (
-  Ok (meant bytes declared t None h.means),
-  subst (λ (x : List ℕ). Means x (Ok (meant bytes declared t None h.means))) (sym h.text_is) (means bytes declared t None h.means),
+-- the note of a packet that means a tree and a note, or none
+pub noted_as : (bytes : List ℕ) (declared : List Hint) (t : Parts) (note : Option (List ℕ)) → PacketMeans bytes declared t note → IsNoteOf bytes note
+noted_as bytes declared t note h = (
+  Ok (meant bytes declared t note h.means),
+  subst (λ (x : List ℕ). Means x (Ok (meant bytes declared t note h.means))) (sym h.text_is) (means bytes declared t note h.means),
   sym (h.means.note_is 100 (omega arith)),
 )
 
@@ -31,4 +32,4 @@ module _ (need : Need) (old : List ℕ) (kept : Kept) (p : IsPhotograph need old
       let meaning : Meaning = meant now declared t None h.means in
       let opened : Opened = record { meaning = meaning; joined = false } in
       let is_opened : IsOpened kept_now (Ok opened) = (Ok meaning, opens now declared t None h, refl) in
-      (opened, (Ok kept_now, exchanged_loaded need old kept p payload there now as_long some small short (noteless now declared t h), is_opened), h.means.tree_is 100 (omega arith))
+      (opened, (Ok kept_now, exchanged_loaded need old kept p payload there now as_long some small short (noted_as now declared t None h), is_opened), h.means.tree_is 100 (omega arith))

@@ -8,14 +8,13 @@ use Rattle.xmp_values.specs.declared.rules.Rule.{Rule}
 use Rattle.xml_grammar.specs.declared.elements.Element.{Element}
 use Rattle.xml_grammar.specs.Documents.{IsDocument, IsFault}
 use Rattle.packet_exchange.specs.Closing.{Closed, ExchangeCall}
-use Rattle.round_trip.specs.Law.{MayWrite}
 use Rattle.xmp_files.specs.declared.held.Need.{Need}
 use Rattle.xmp_files.specs.Keeping.{Piece, Kept}
 use Rattle.xmp_files.specs.Loading.{IsLoaded}
 use Rattle.xmp_files.specs.Opening.{HoldsTree, IsWhole}
 use Rattle.xmp_files.specs.Planning.{Edited, Plan, InPlace}
 use Rattle.xmp_files.specs.Planneds.{bytes_in}
-use Rattle.xmp_files.specs.Plans.{IsPlanned, whole_form}
+use Rattle.xmp_files.specs.Plans.{IsPlanned, MayPlan}
 
 -- a plan for an edit that may change the packet in its place alone, and no digest
 abbrev pub IsPatchPlan : Kept → Plan → Type 0
@@ -45,6 +44,6 @@ DocumentOrFault = (text : List ℕ) → ((root : Element) × (hints : List Hint)
 abbrev pub FileIsPatched : Type 0
 FileIsPatched =
     (need : Need) (old : List ℕ) (kept : Kept) (joined : Bool) (e : Edited) (plan : Plan) → IsLoaded need (Some old) (Ok kept) → e.digest ≡ None → IsPlanned kept joined true e (Ok plan)
-    → HoldsTree (Some old) e.old → (e.new ≢ e.old → MayWrite e.new e.hints (whole_form e.new))
+    → HoldsTree (Some old) e.old → (e.new ≢ e.old → MayPlan e.new e.hints)
     → (payload : Piece) → kept.payload ≡ Some payload → (now : List ℕ) → length now ≡ length payload.bytes → IsLeft payload.bytes plan now
     → IsWhole e.old e.new (Some (put_at old payload.at now))

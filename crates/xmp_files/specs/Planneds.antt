@@ -13,8 +13,10 @@ use Rattle.xmp_files.specs.declared.parts.NewFile.{NewFile}
 use Rattle.xmp_files.specs.NewFiles.{parts_at, NewLies}
 use Rattle.xmp_files.specs.Planning.{Edited, Plan, Same, InPlace, Relocated}
 use Rattle.jpeg_regions.specs.Jpeg.{Region}
-use Rattle.xmp_values.specs.declared.faults.Fault.{Fault}
-use Rattle.xmp_files.specs.Plans.{IsPlanned, IsMoved, put_among}
+use Rattle.jpeg_extended.specs.Written.{name_text, portion_at, segment_text}
+use Rattle.xmp_values.specs.declared.hints.Hint.{Hint}
+use Rattle.xmp_tree.specs.Parts.{Parts}
+use Rattle.xmp_files.specs.Plans.{IsPlanned, IsMoved, IsDivided, put_among}
 
 abbrev pub plan_of : Exchange → Plan
 plan_of Nothing = Same
@@ -46,6 +48,15 @@ PlanAnswer kept joined patch e result =
 abbrev pub MoveAnswer : Option Piece → Container → List FileSpan → Bool → Bool → Edited → Result Exchange FaultStop → Type 0
 MoveAnswer payload container portions joined patch e result =
     Answers fault_of result (λ exchange. IsMoved payload container portions joined patch e (Ok (plan_of exchange))) (λ fault. IsMoved payload container portions joined patch e (Err fault))
+
+-- the segment of portion k, from 0, of an extended text
+unfoldable pub portion_segment : List ℕ → ℕ → List ℕ
+portion_segment extended k = segment_text (name_text extended) (portion_at extended k)
+
+-- a tree that is too long for a segment was divided as the definition says; want of memory is free
+abbrev pub DivideAnswer : List Region → List FileSpan → Parts → List Hint → Result Exchange FaultStop → Type 0
+DivideAnswer regions joined t hints result =
+    Answers fault_of result (λ exchange. IsDivided regions joined t hints (Ok (plan_of exchange))) (λ fault. IsDivided regions joined t hints (Err fault))
 
 -- new bytes among the regions of a JPEG file are what the definition says; want of memory is free
 abbrev pub AmongAnswer : List Region → List FileSpan → List ℕ → Result Exchange FaultStop → Type 0

@@ -82,13 +82,3 @@ abbrev pub Frame : Kept → Plan → List ℕ → List ℕ → Type 0
 Frame kept Same old new = new ≡ old
 Frame kept (InPlace pieces) old new = Agree old new pieces
 Frame kept (Relocated parts) old new = KeepsPictures kept.container kept.portions old new
-
--- Two conditions on the old file, under which a new one is read as its tree: in a TIFF file the replaced numbers meet no other
--- named range, and no stray portion bears the name of a new extended text.
-abbrev pub Apart : Container → Type 0
-Apart Text = Unit {0}
-Apart (Segments regions) = Unit {0}
-
-abbrev pub NoStray : Container → Plan → Type 0
-NoStray Text plan = Unit {0}
-NoStray (Segments regions) plan = Unit {0}

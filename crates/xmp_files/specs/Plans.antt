@@ -3,7 +3,8 @@ use Rattle.std.specs.Prelude.{◌≡◌, ◌≢◌, ◌⊎◌, ℕ, ◌+◌, ◌
 use Rattle.std.specs.declared.result.Result.{Result}
 use Rattle.xmp_values.specs.declared.faults.Fault.{Fault}
 use Rattle.xmp_values.specs.declared.faults.Part.TheVariants.{File, Main}
-use Rattle.xmp_values.specs.declared.rules.Rule.TheVariants.{NeedsRelocation, AfterMultiPicture, OutLimit}
+use Rattle.xmp_values.specs.declared.hints.Hint.{Hint}
+use Rattle.xmp_values.specs.declared.rules.Rule.TheVariants.{NeedsRelocation, SegmentLimit, AfterMultiPicture, OutLimit}
 use Rattle.xmp_base.specs.declared.file_span.FileSpan.{FileSpan}
 use Rattle.jpeg_regions.specs.Jpeg.{Region, text, span}
 use Rattle.jpeg_relocation.specs.declared.pictures.MovedPictures.{MovedPictures}
@@ -11,12 +12,17 @@ use Rattle.jpeg_relocation.specs.Relocation.{before, after}
 use Rattle.jpeg_relocation.specs.Runs.{runs}
 use Rattle.jpeg_relocation.specs.Pictures.{moved_pictures}
 use Rattle.jpeg_relocation.specs.NewSegments.{main_limit, new_segments}
+use Rattle.jpeg_relocation.specs.Laws.{NoStray as HasNoStray}
+use Rattle.jpeg_extended.specs.Written.{name_text}
 use Rattle.xmp_tree.specs.Parts.{Parts}
 use Rattle.xmp_packets.specs.Packets.{is_writable}
 use Rattle.xmp_write.specs.declared.forms.Form.{Form}
 use Rattle.xmp_write.specs.Prefixes.{prefixes}
+use Rattle.xmp_write.specs.Text.{canonical_text}
+use Rattle.xmp_write.specs.Splits.{front_form, rest_form, IsSplit, FitsNever}
 use Rattle.xmp_write.specs.WrittenPackets.{least_len, canonical_packet}
-use Rattle.xmp_files.specs.Faults.{file_limit, packet_limit, over_packet, not_built}
+use Rattle.round_trip.specs.Law.{MayWrite}
+use Rattle.xmp_files.specs.Faults.{file_limit, packet_limit, over_packet, over_extended}
 use Rattle.xmp_files.specs.Keeping.{Piece, Container, Text, Segments, Kept}
 use Rattle.xmp_files.specs.Planning.{Edited, Part, Old, New, parts_len, Plan, Same, InPlace, Relocated}
 
@@ -115,11 +121,41 @@ segment_padded least = min (least + padding) main_limit
 abbrev pub segments_text : List ℕ → Option (List ℕ) → List ℕ
 segments_text packet extended = flat_map text (new_segments packet extended)
 
--- The packet of the whole tree stands in a segment. A tree that is too long for that would be split, which isn't built yet.
+-- The tree in two texts: the properties from number k on, and the packet of those before it, whose note is the name of the others' text.
+abbrev pub rest_text : Parts → List Hint → ℕ → List ℕ
+rest_text t hints k = canonical_text t hints (rest_form t k)
+
+abbrev pub named_front : Parts → List Hint → ℕ → Form
+named_front t hints k = front_form (name_text (rest_text t hints k)) k
+
+abbrev pub front_least : Parts → List Hint → ℕ → ℕ
+front_least t hints k = least_len (prefixes t hints (named_front t hints k)) t (named_front t hints k)
+
+abbrev pub front_packet : Parts → List Hint → ℕ → List ℕ
+front_packet t hints k = canonical_packet t hints (named_front t hints k) (segment_padded (front_least t hints k))
+
+-- both texts among the regions, or the first fault: an extended text has a limit of its own
+abbrev pub put_both : List Region → List FileSpan → Parts → List Hint → ℕ → Result Plan Fault
+put_both regions joined t hints k =
+    if nat_lt packet_limit (length (rest_text t hints k)) then Err (over_extended (told (length (rest_text t hints k))))
+    else put_among regions joined (segments_text (front_packet t hints k) (Some (rest_text t hints k)))
+
+-- even the packet of the note without a property is too long for a segment
+abbrev pub over_segment : ℕ → Fault
+over_segment least = record { rule = SegmentLimit; place = record { part = Main; at = 0 }; x = least; y = main_limit }
+
+-- As many first properties stand in the main packet as its segment has room for, and the others in an extended text (XMP Part 3, section
+-- 1.1.3.1).
+abbrev pub IsDivided : List Region → List FileSpan → Parts → List Hint → Result Plan Fault → Type 0
+IsDivided regions joined t hints step =
+    ((k : ℕ) × IsSplit t hints main_limit k × (step ≡ put_both regions joined t hints k))
+    ⊎ ((least : ℕ) × FitsNever t hints main_limit least × (step ≡ Err (over_segment least)))
+
+-- The packet of the whole tree stands in a segment; a tree that is too long for that is divided.
 abbrev pub IsRelocated : List Region → List FileSpan → Edited → Result Plan Fault → Type 0
 IsRelocated regions joined e step =
     ((least_of e ≤ main_limit) × (step ≡ put_among regions joined (segments_text (packet_of e (segment_padded (least_of e))) None)))
-    ⊎ ((main_limit < least_of e) × (step ≡ Err not_built))
+    ⊎ ((main_limit < least_of e) × IsDivided regions joined e.new e.hints step)
 
 -- The file that has the new packet in another place, or the first fault. A sidecar is nothing but its packet.
 abbrev pub IsRelocation : Container → List FileSpan → Edited → Result Plan Fault → Type 0
@@ -154,3 +190,24 @@ abbrev pub planned_len : ℕ → Plan → ℕ
 planned_len size Same = size
 planned_len size (InPlace pieces) = size
 planned_len size (Relocated parts) = parts_len parts
+
+-- that the texts of a tree, whole and in two, may be written with these hints, which are in memory
+pub record MayPlan (t : Parts) (hints : List Hint) : Type 0 where
+  pub whole : MayWrite t hints (whole_form t)
+  pub few : length hints < 2 ^ 63
+
+-- Two conditions on the old file, under which a new one is read as its tree: in a TIFF file the replaced numbers meet no other
+-- named range, and no portion that stays bears the name of a new extended text.
+abbrev pub Apart : Container → Type 0
+Apart Text = Unit {0}
+Apart (Segments regions) = Unit {0}
+
+abbrev pub NoStrayIn : List ℕ → List Region → List FileSpan → Edited → Plan → Type 0
+NoStrayIn file regions joined e Same = Unit {0}
+NoStrayIn file regions joined e (InPlace pieces) = Unit {0}
+NoStrayIn file regions joined e (Relocated parts) =
+    (k : ℕ) → main_limit < least_of e → IsSplit e.new e.hints main_limit k → HasNoStray file joined regions (name_text (rest_text e.new e.hints k))
+
+abbrev pub NoStray : List ℕ → Container → List FileSpan → Edited → Plan → Type 0
+NoStray file Text joined e plan = Unit {0}
+NoStray file (Segments regions) joined e plan = NoStrayIn file regions joined e plan

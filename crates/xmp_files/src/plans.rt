@@ -1,16 +1,16 @@
 //! What becomes of a file whose tree was edited.
-ghost use Rattle.std.specs.Prelude.{◌≡◌, ◌≢◌, ◌+◌, ◌≤◌, length, IfOk, None};
+ghost use Rattle.std.specs.Prelude.{◌≡◌, ◌≢◌, ◌+◌, ◌≤◌, ◌<◌, ◌^◌, length, IfOk, None};
 ghost use Rattle.xmp_tree.specs.Parts.{Parts};
 ghost use Rattle.xmp_write.specs.Prefixes.{prefixes};
 ghost use Rattle.xmp_write.specs.WrittenPackets.{least_len, packet};
-ghost use Rattle.round_trip.specs.Law.{MayWrite};
-ghost use Rattle.xmp_files.specs.Plans.{room_of, put_over, told, fits, planned_len, needs_relocation, whole_form};
+ghost use Rattle.xmp_files.specs.Plans.{room_of, put_over, told, fits, planned_len, needs_relocation, MayPlan};
 ghost use Rattle.xmp_files.specs.Planneds.{plan_of, outcome_of, ExchangeLies, IsNewFile, MoveAnswer, PlanAnswer, new_packet};
 ghost use Rattle.xmp_files.specs.Loads.{IsOfSize};
 ghost use Rattle.xmp_files.specs.Patching.{new_payload};
 ghost use Rattle.std.specs.Option.{option_copied};
 
-use crate::faults::{PACKET_LIMIT, not_built, over_packet};
+use crate::dividing::with_both;
+use crate::faults::{PACKET_LIMIT, over_packet};
 use crate::held::Held;
 use crate::opening::Opened;
 use crate::parts::{NewFile, whole_file};
@@ -124,7 +124,7 @@ impl Planned {
 pub const PADDING: u64 = 2048;
 
 /// The bytes of a packet's header and trailer.
-const WRAPPER: u64 = 73;
+pub const WRAPPER: u64 = 73;
 
 /// The least length of a packet of the tree, or the greatest number.
 fn least_len(tree: &Tree<'_>, prefixes: &Prefixes<'_>, form: &Form) -> u64
@@ -192,7 +192,8 @@ fn needs_relocation(least: u64, room: usize) -> Fault
 
 /// How many hints and prefixes there are: as many as a number holds, since both lists are in memory.
 fn count_of(hints: &[Hint], prefixes: &[Hint]) -> usize
-    ensures { result ≡ length hints.now + length prefixes.now }
+    ensures sum { result ≡ length hints.now + length prefixes.now }
+    ensures few { length hints.now < 2 ^ 63 }
 {
     hints.len() + prefixes.len()
 }
@@ -210,8 +211,8 @@ fn change_of(
 ) -> Result<Exchange, FaultStop>
     requires lies { IsOfSize held.now.size held.now }
     ensures step { (old : Parts) → MoveAnswer held.now.payload held.now.container held.now.portions joined patch (record { old = old; new = tree.now; hints = hints.now; digest = None }) result }
-    // the text that was written is one that is read back
-    ensures written { IfOk result (λ _. MayWrite tree.now hints.now (whole_form tree.now)) }
+    // the texts that were written are ones that are read back
+    ensures written { IfOk result (λ _. MayPlan tree.now hints.now) }
     ensures lies { IfOk result (ExchangeLies held.now.size) }
 {
     let _props = &tree.props;
@@ -233,29 +234,22 @@ fn change_of(
         let bytes = packet(alloc, tree, &prefixes, &form, padded as usize)?;
         return Ok(Exchange::Anew(whole_file(alloc, bytes)?));
     };
-    if least > SEGMENT_LIMIT {
-        return Err(FaultStop::Fault(not_built()));
-    }
+    let size = held.size();
     let portions = held.portions();
+    if least > SEGMENT_LIMIT {
+        return with_both(alloc, size, regions, portions, tree, hints);
+    }
     with_packet(
-        alloc,
-        held.size(),
-        regions,
-        portions,
-        tree,
-        &prefixes,
-        &form,
-        least,
+        alloc, size, regions, portions, tree, &prefixes, &form, least,
     )
 }
 
 /// What becomes of a file whose tree is to be `tree`, with all hints of its text. With `patch` the file may be
-/// changed inside its packet alone. A JPEG file isn't relocated yet where the packet of the tree is too long for a
-/// segment.
+/// changed inside its packet alone.
 ///
 /// # Errors
 /// The first fault of the steps after the edits: XmpLimit of the new text, then NeedsRelocation with `patch`, and of a
-/// JPEG file AfterMultiPicture and OutLimit.
+/// JPEG file SegmentLimit, XmpLimit of the new extended text, AfterMultiPicture and OutLimit.
 #[tactic(auto, using(crate::proofs::Placing::stops_planned))]
 pub fn plan(
     alloc: Global,
@@ -267,8 +261,8 @@ pub fn plan(
 ) -> Result<Planned, FaultStop>
     requires lies { IsOfSize held.now.size held.now }
     ensures step { PlanAnswer held.now opened.now.joined patch (record { old = opened.now.meaning.tree; new = tree.now; hints = hints.now; digest = None }) result }
-    // the text of a tree that changes is one that is read back
-    ensures written { IfOk result (λ _. tree.now ≢ opened.now.meaning.tree → MayWrite tree.now hints.now (whole_form tree.now)) }
+    // the texts of a tree that changes are ones that are read back
+    ensures written { IfOk result (λ _. tree.now ≢ opened.now.meaning.tree → MayPlan tree.now hints.now) }
 {
     let old_len = held.size();
     if equal(tree, &opened.meaning.tree) {

@@ -30,7 +30,7 @@ pub const SEGMENT_LIMIT: u64 = 65_502;
 const SIGNATURE: &[u8] = b"http://ns.adobe.com/xap/1.0/\0";
 
 /// How long the packet of a segment is, by its least length.
-fn segment_padded(least: u64) -> u64
+pub fn segment_padded(least: u64) -> u64
     requires { least ≤ 65502 }
     ensures { result ≡ segment_padded least }
 {
@@ -57,7 +57,7 @@ fn push_packet(
 }
 
 /// The main segment: `FF E1 | length, 2 bytes, counting itself | signature | packet`.
-fn main_segment(
+pub fn main_segment(
     alloc: Global,
     tree: &Tree<'_>,
     prefixes: &Prefixes<'_>,
@@ -135,7 +135,7 @@ fn over_out(size: u64) -> Fault
 
 /// New bytes among the regions of a JPEG file of `size` bytes, in which no main packet and no joined portion stays, or
 /// why they don't come there.
-fn put_among(
+pub fn put_among(
     alloc: Global,
     size: u64,
     regions: &Regions,

@@ -31,6 +31,8 @@ mod patching;
 #[cfg(test)]
 mod photographs;
 #[cfg(test)]
+mod relocated;
+#[cfg(test)]
 mod round_trips;
 #[cfg(test)]
 mod runs;

@@ -219,11 +219,23 @@ pub fn run_edit(
     script: &[u8],
     plan: Plan,
 ) -> Result<Edited, Memory> {
+    run_moving(alloc, list, file, script, plan, 64)
+}
+
+/// The same on a desk that moves at most so many bytes a call.
+pub fn run_moving(
+    alloc: Global,
+    list: &[&str],
+    file: &[u8],
+    script: &[u8],
+    plan: Plan,
+    most: u64,
+) -> Result<Edited, Memory> {
     let words = words_of(alloc, list)?;
     let mut desk = MemoryDesk::new(alloc);
     desk.add("a.xmp", file)?;
     desk.add("script", script)?;
-    desk.cut(64);
+    desk.cut(most);
     if plan.desk > 0 {
         desk.fail(plan.desk)?;
     }

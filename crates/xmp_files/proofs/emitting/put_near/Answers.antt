@@ -7,7 +7,7 @@ use Rattle.xmp_files.specs.declared.parts.FilePart.{FilePart}
 use Rattle.xmp_files.specs.Planning.{Part, parts_len}
 use Rattle.xmp_files.specs.NewFiles.{parts_at, PartLies}
 use Rattle.xmp_files.specs.Emitting.{PartsCall}
-use Rattle.xmp_files.proofs.EmittedPlans.{ends_within, put_is, put_lies, put_room}
+use Rattle.xmp_files.proofs.EmittedPlans.{put_is, put_lies, put_room}
 use Rattle.xmp_files.proofs.emitting.put_near.Goals as goal
 
 pub put_parts-requires-clause-source : goal.put_parts-requires-clause-source

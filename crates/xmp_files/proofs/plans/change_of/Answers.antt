@@ -1,20 +1,19 @@
 use Rattle.xmp_files.specs.Planning.{Edited}
-use Rattle.std.proofs.Common.{ℕ, List, length, None, refl, sym, ap, ◌∙◌, subst, arith}
+use Rattle.std.proofs.Common.{ℕ, List, length, None, sym, ap, ◌∙◌, subst, arith}
 use Rattle.std.specs.Prelude.{IfOk}
 use Rattle.std.specs.Option.{option_copied}
 use Rattle.xmp_base.specs.declared.file_span.FileSpan.{FileSpan}
 use Rattle.jpeg_regions.specs.Jpeg.{portion_payloads}
 use Rattle.jpeg_regions.specs.Cutting.{Tiles}
 use Rattle.jpeg_extended.specs.FromDesk.{ArePicked}
-use Rattle.round_trip.specs.Law.{MayWrite}
 use Rattle.xmp_write.specs.WrittenPackets.{packet}
 use Rattle.xmp_files.specs.Planning.{Part, Relocated}
-use Rattle.xmp_files.specs.Plans.{segments_text, segment_padded, whole_form}
+use Rattle.xmp_files.specs.Plans.{segments_text, segment_padded, MayPlan}
 use Rattle.xmp_files.proofs.Relocations.{container_lies, any_ok}
 use Rattle.xmp_tree.specs.Wf.{Wf}
 use Rattle.xmp_files.proofs.MayBeWritten.{may_be_written}
-use Rattle.xmp_files.proofs.Placing.{inside_moved, anew_moved, unbuilt_moved, among_answer, least_exact}
-use Rattle.xmp_files.specs.Planneds.{plan_of, AmongAnswer, ExchangeLies}
+use Rattle.xmp_files.proofs.Placing.{inside_moved, anew_moved, divided_answer, among_answer, least_exact}
+use Rattle.xmp_files.specs.Planneds.{plan_of, AmongAnswer, DivideAnswer, ExchangeLies}
 use Rattle.xmp_files.proofs.plans.change_of.Goals as goal
 
 pub returns-then-fits-clause-step : goal.returns-then-fits-clause-step
@@ -27,7 +26,8 @@ returns-then-fits-clause-step c old =
 pub returns-then-fits-clause-written : goal.returns-then-fits-clause-written
 returns-then-fits-clause-written c =
     may_be_written c.args.tree.now c.args.hints.now c.in_ok-prefixes.prefixes c.whole-form.result (subst Wf c.tree.view_is c.tree.invariant) c.as_slice.ensures.valid
-    c.whole-form.ensures c.in_ok-prefixes.ensures (omega (arith, c.count_of-count.ensures, c.count_of-count.type_inv, ap length c.as_slice.ensures.hints, ap length c.as_slice-2.ensures))
+    c.whole-form.ensures c.in_ok-prefixes.ensures (omega (arith, c.count_of-count.ensures.sum, c.count_of-count.type_inv, ap length c.as_slice.ensures.hints, ap length c.as_slice-2.ensures))
+    (omega (arith, c.count_of-count.ensures.few, ap length c.as_slice.ensures.hints))
 
 pub returns-in_default-clause-step : goal.returns-in_default-clause-step
 returns-in_default-clause-step c old =
@@ -40,7 +40,8 @@ returns-in_default-clause-step c old =
 pub returns-in_default-clause-written : goal.returns-in_default-clause-written
 returns-in_default-clause-written c =
     may_be_written c.args.tree.now c.args.hints.now c.in_ok-prefixes.prefixes c.whole-form.result (subst Wf c.tree.view_is c.tree.invariant) c.as_slice.ensures.valid
-    c.whole-form.ensures c.in_ok-prefixes.ensures (omega (arith, c.count_of-count.ensures, c.count_of-count.type_inv, ap length c.as_slice.ensures.hints, ap length c.as_slice-2.ensures))
+    c.whole-form.ensures c.in_ok-prefixes.ensures (omega (arith, c.count_of-count.ensures.sum, c.count_of-count.type_inv, ap length c.as_slice.ensures.hints, ap length c.as_slice-2.ensures))
+    (omega (arith, c.count_of-count.ensures.few, ap length c.as_slice.ensures.hints))
 
 pub returns-in_default-clause-lies : goal.returns-in_default-clause-lies
 returns-in_default-clause-lies c = c.in_ok-whole_file.ensures.lies c.args.held.now.size
@@ -48,14 +49,35 @@ returns-in_default-clause-lies c = c.in_ok-whole_file.ensures.lies c.args.held.n
 pub returns-then-least-gt-SEGMENT_LIMIT-clause-step : goal.returns-then-least-gt-SEGMENT_LIMIT-clause-step
 returns-then-least-gt-SEGMENT_LIMIT-clause-step c old =
     let e : Edited = record { old = old; new = c.args.tree.now; hints = c.args.hints.now; digest = None } in
-    unbuilt_moved c.args.held.now.payload c.args.held.now.container c.args.held.now.portions c.args.joined c.args.patch e c.in_ok-prefixes.prefixes c.whole-form.result c.least_len-least.result
+    divided_answer c.args.held.now.payload c.args.held.now.container c.args.held.now.portions c.args.joined c.args.patch e c.in_ok-prefixes.prefixes c.whole-form.result c.least_len-least.result
     c.saturating_add-padded.result c.in_ok-prefixes.ensures c.whole-form.ensures c.least_len-least.ensures c.saturating_add-padded.ensures
-    c.if-padded-gt-PACKET_LIMIT.false (sym c.fits.ensures ∙ c.if-fits.false) c.if-patch.false c.in-Some.regions.now c.not_built.result (sym c.regions.ensures ∙ ap option_copied c.in-Some.is)
-    c.if-least-gt-SEGMENT_LIMIT.true c.not_built.ensures
+    c.if-padded-gt-PACKET_LIMIT.false (sym c.fits.ensures ∙ c.if-fits.false) c.if-patch.false c.in-Some.regions.now c.with_both.result (sym c.regions.ensures ∙ ap option_copied c.in-Some.is)
+    c.if-least-gt-SEGMENT_LIMIT.true
+    (subst (λ (ps : List FileSpan). DivideAnswer c.in-Some.regions.now ps c.args.tree.now c.args.hints.now c.with_both.result) c.portions-portions.ensures c.with_both.ensures.step)
+
+pub returns-then-least-gt-SEGMENT_LIMIT-clause-written : goal.returns-then-least-gt-SEGMENT_LIMIT-clause-written
+returns-then-least-gt-SEGMENT_LIMIT-clause-written c =
+    any_ok (MayPlan c.args.tree.now c.args.hints.now) c.with_both.result
+    (may_be_written c.args.tree.now c.args.hints.now c.in_ok-prefixes.prefixes c.whole-form.result (subst Wf c.tree.view_is c.tree.invariant) c.as_slice.ensures.valid
+    c.whole-form.ensures c.in_ok-prefixes.ensures (omega (arith, c.count_of-count.ensures.sum, c.count_of-count.type_inv, ap length c.as_slice.ensures.hints, ap length c.as_slice-2.ensures))
+    (omega (arith, c.count_of-count.ensures.few, ap length c.as_slice.ensures.hints)))
+
+pub returns-then-least-gt-SEGMENT_LIMIT-clause-lies : goal.returns-then-least-gt-SEGMENT_LIMIT-clause-lies
+returns-then-least-gt-SEGMENT_LIMIT-clause-lies c = subst (λ (n : ℕ). IfOk c.with_both.result (ExchangeLies n)) c.size-size.ensures c.with_both.ensures.lies
+
+pub with_both-requires-clause-tiles : goal.with_both-requires-clause-tiles
+with_both-requires-clause-tiles c =
+    subst (λ (n : ℕ). Tiles 2 n c.in-Some.regions.now) (sym c.size-size.ensures)
+    (container_lies c.args.held.now.size c.args.held.now.container c.args.held.now.portions c.in-Some.regions.now c.requires.lies.container (sym c.regions.ensures ∙ ap option_copied c.in-Some.is)).0
+
+pub with_both-requires-clause-among : goal.with_both-requires-clause-among
+with_both-requires-clause-among c =
+    subst (λ (ps : List FileSpan). ArePicked ps (portion_payloads c.in-Some.regions.now)) (sym c.portions-portions.ensures)
+    (container_lies c.args.held.now.size c.args.held.now.container c.args.held.now.portions c.in-Some.regions.now c.requires.lies.container (sym c.regions.ensures ∙ ap option_copied c.in-Some.is)).1
 
 pub with_packet-requires-clause-tiles : goal.with_packet-requires-clause-tiles
 with_packet-requires-clause-tiles c =
-    subst (λ (n : ℕ). Tiles 2 n c.in-Some.regions.now) (sym c.size.ensures)
+    subst (λ (n : ℕ). Tiles 2 n c.in-Some.regions.now) (sym c.size-size.ensures)
     (container_lies c.args.held.now.size c.args.held.now.container c.args.held.now.portions c.in-Some.regions.now c.requires.lies.container (sym c.regions.ensures ∙ ap option_copied c.in-Some.is)).0
 
 pub with_packet-requires-clause-among : goal.with_packet-requires-clause-among
@@ -82,9 +104,10 @@ returns-clause-step c old =
 
 pub returns-clause-written : goal.returns-clause-written
 returns-clause-written c =
-    any_ok (MayWrite c.args.tree.now c.args.hints.now (whole_form c.args.tree.now)) c.with_packet.result
+    any_ok (MayPlan c.args.tree.now c.args.hints.now) c.with_packet.result
     (may_be_written c.args.tree.now c.args.hints.now c.in_ok-prefixes.prefixes c.whole-form.result (subst Wf c.tree.view_is c.tree.invariant) c.as_slice.ensures.valid
-    c.whole-form.ensures c.in_ok-prefixes.ensures (omega (arith, c.count_of-count.ensures, c.count_of-count.type_inv, ap length c.as_slice.ensures.hints, ap length c.as_slice-2.ensures)))
+    c.whole-form.ensures c.in_ok-prefixes.ensures (omega (arith, c.count_of-count.ensures.sum, c.count_of-count.type_inv, ap length c.as_slice.ensures.hints, ap length c.as_slice-2.ensures))
+    (omega (arith, c.count_of-count.ensures.few, ap length c.as_slice.ensures.hints)))
 
 pub returns-clause-lies : goal.returns-clause-lies
-returns-clause-lies c = subst (λ (n : ℕ). IfOk c.with_packet.result (ExchangeLies n)) c.size.ensures c.with_packet.ensures.lies
+returns-clause-lies c = subst (λ (n : ℕ). IfOk c.with_packet.result (ExchangeLies n)) c.size-size.ensures c.with_packet.ensures.lies

@@ -1,4 +1,4 @@
-use Rattle.std.proofs.Common.{◌≡◌, ap, sym, subst, ◌∙◌, length, ℕ, List, None}
+use Rattle.std.proofs.Common.{◌≡◌, sym, subst, ◌∙◌, length, ℕ, List, None}
 use Rattle.std.specs.Prelude.{All}
 use Rattle.jpeg_relocation.specs.Pictures.{moved_of, moved_pictures}
 use Rattle.jpeg_relocation.specs.Relocation.{before, after}
@@ -9,7 +9,7 @@ use Rattle.xmp_files.specs.Planning.{parts_len}
 use Rattle.xmp_files.specs.Plans.{told}
 use Rattle.xmp_files.proofs.KeptLie.{kept_parts_lie}
 use Rattle.xmp_files.proofs.PickedPortions.{picked_among}
-use Rattle.xmp_files.proofs.Relocations.{among_moved, among_over, among_put, among_fits}
+use Rattle.xmp_files.proofs.Relocations.{among_over, among_put, among_fits}
 use Rattle.xmp_files.proofs.relocating.put_among.Goals as goal
 
 pub of-requires-clause-among : goal.of-requires-clause-among

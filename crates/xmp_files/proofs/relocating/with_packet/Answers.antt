@@ -1,4 +1,4 @@
-use Rattle.std.proofs.Common.{ap, sym, subst, ◌∙◌, ℕ, List, None}
+use Rattle.std.proofs.Common.{ap, subst, ◌∙◌, ℕ, List, None}
 use Rattle.xmp_write.specs.WrittenPackets.{packet}
 use Rattle.xmp_files.specs.Plans.{segments_text}
 use Rattle.xmp_files.specs.Planneds.{AmongAnswer}
