@@ -41,7 +41,7 @@ spaces_within = fold-Child (List (List ℕ)) (List (List ℕ)) child_spaces elem
 abbrev pub used_spaces : Element → List (List ℕ)
 used_spaces e = spaces_within (child.Element e)
 
--- The same by first use, each once, but for that of `xml`, which nothing need declare (Namespaces in XML 1.0, section 3).
+-- The same by first use, each once, but for that of `xml`, which needs no declaration (Namespaces in XML 1.0, section 3).
 abbrev pub first_uses : Element → List (List ℕ)
 first_uses e = fold with_text [] (filter (λ space. not (bytes_eq space xml_space)) (used_spaces e))
 
