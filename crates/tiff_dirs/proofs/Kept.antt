@@ -1,5 +1,5 @@
 -- Pieces of a file that are kept, and what is read from them.
-use Rattle.std.proofs.Common.{◌≡◌, ◌≢◌, ℕ, zero, suc, ◌+◌, ◌-◌, ◌*◌, ◌<◌, ◌≤◌, ◌==◌, ◌||◌, Bool, true, false, if◌then◌else◌, List, [], ◌∷◌, ◌++◌, length, take, drop, map, get_or, refl, sym, ap, subst, ◌∙◌, arith, Some, None}
+use Rattle.std.proofs.Common.{◌≡◌, ◌≢◌, ℕ, zero, suc, ◌+◌, ◌-◌, ◌*◌, ◌<◌, ◌≤◌, ◌⊎◌, inl, inr, ◌==◌, ◌||◌, Bool, true, false, if◌then◌else◌, List, [], ◌∷◌, ◌++◌, length, take, drop, map, get_or, refl, sym, ap, subst, ◌∙◌, arith, Some, None}
 use Rattle.std.specs.declared.option.Option.{Option}
 use Rattle.std.specs.List.{All, insert, slice_get, items_where_true}
 use Rattle.std.specs.Option.{option_map, option_or}
@@ -59,6 +59,18 @@ All-insert P ps k p a b = All-append P (take k ps) (p ∷ drop k ps) (All-take P
 
 pub All-at : {X : Type 0} (P : X → Type 0) (xs : List X) (k : ℕ) (x : X) → All P xs → slice_get xs k ≡ Some x → P x
 All-at P xs k x a e = subst P (get_or_from_slice_get xs k x x e) (a k x (slice_get_within xs k x e))
+
+-- the last of a list with one more
+pub pushed : {X : Type 0} (xs : List X) (y : X) (k : ℕ) (x : X) → slice_get (xs ++ y ∷ []) k ≡ Some x
+    → ((k < length xs) × (slice_get xs k ≡ Some x) × (take k (xs ++ y ∷ []) ≡ take k xs)) ⊎ ((k ≡ length xs) × (x ≡ y) × (take k (xs ++ y ∷ []) ≡ xs))
+pushed [] y zero x e = inr (refl, cc, refl)
+pushed [] y (suc k) x e = (cc)
+pushed (z ∷ xs) y zero x e = inl (omega arith, e, refl)
+pushed (z ∷ xs) y (suc k) x e =
+    elim (pushed xs y k x e) [
+      | inl h ↦ inl (let a = h.0 in omega (arith, a), h.1, ap (λ t. z ∷ t) h.2)
+      | inr h ↦ inr (ap suc h.0, h.1, ap (λ t. z ∷ t) h.2)
+    ]
 
 -- the entries that lie in a piece
 pub piece_entries : (file : List ℕ) (l : Layout) (p : Piece) (start n : ℕ) → Widths l → Holds file p → Has (length file) start (l.entry * n) p

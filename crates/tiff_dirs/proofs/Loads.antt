@@ -129,6 +129,7 @@ items_loaded l e count width len s t name (Ok bytes) lies most is call =
       size = call.size ∙ same;
       items = λ files told.
           numbers_part bytes (bytes_of files name) e.value.start (width * count) (call.bytes files told) l.big (size_of l e.code) 0 e.value.start count (omega (arith, same)) (omega arith);
+      part = λ files told. call.bytes files told ∙ ap (λ (n : ℕ). take n (drop e.value.start (bytes_of files name))) (sym call.size);
       device = call.device;
       fault = tt;
     }
@@ -140,6 +141,7 @@ items_loaded l e count width len s t name (Err stop) lies most is call =
       calls = reads_inside name s t e.value.start (e.value.start + width * count) (λ _. e.value ∷ []) call.calls (λ files told. (e.value, contains_one e.value, omega arith, omega (arith, product, same, end)));
       size = tt;
       items = tt;
+      part = tt;
       device = call.device;
       fault = call.fault;
     }

@@ -13,7 +13,7 @@ use Rattle.tiff_dirs.specs.Types.{size_of, is_offset}
 use Rattle.tiff_dirs.specs.Directories.{named, named_by}
 use Rattle.xmp_base.specs.Device.{DeskState}
 use Rattle.tiff_dirs.specs.Tables.{Reads, is_table, table_of, tables_in}
-use Rattle.tiff_dirs.proofs.Loads.{reads_wider}
+use Rattle.tiff_dirs.proofs.Loads.{reads_trans, reads_wider}
 use Rattle.tiff_dirs.specs.Walking.{capped}
 use Rattle.tiff_dirs.proofs.Capped.{capped_none}
 
@@ -109,12 +109,24 @@ only_by false v r h k = (cc)
 pub table_only : (e : Entry) → is_table e ≡ true → (r : FileSpan) → Contains (e.value ∷ []) r → Contains (tables_in (e ∷ [])) r
 table_only e h r k = only_by (is_table e) e.value r h k
 
-pub table_is : (es : List Entry) (e : Entry) → Contains (tables_in es) e.value → (r : FileSpan) → Contains (e.value ∷ []) r → Contains (tables_in es) r
-table_is es e h r (zero, low, is) = subst (λ (x : FileSpan). Contains (tables_in es) x) is h
-table_is es e h r (suc k, low, is) = absurd (omega arith)
+two_in : (o n : FileSpan) (xs : List FileSpan) → Contains xs o → Contains xs n → (r : FileSpan) → Contains (o ∷ n ∷ []) r → Contains xs r
+two_in o n xs a b r (zero, low, is) = subst (Contains xs) is a
+two_in o n xs a b r (suc zero, low, is) = subst (Contains xs) is b
+two_in o n xs a b r (suc (suc k), low, is) = absurd (omega arith)
 
--- the value of the first entry of a tag is among the tables
-pub tag_read : (s t : DeskState) (name : List ℕ) (es : List Entry) (tag : ℕ) (e : Entry) → ((x : Entry) → x.tag ≡ tag → is_table x ≡ true) → find (λ x. x.tag == tag) es ≡ Some e
-    → Reads s t name (λ _. e.value ∷ []) → Reads s t name (λ _. tables_in es)
-tag_read s t name es tag e is found a =
-    reads_wider name s t (λ _. e.value ∷ []) (λ _. tables_in es) a (λ files told. table_is es e (table_found (λ x. x.tag == tag) es e (is e (found_tag tag es e found)) found))
+-- the values of the first entries of two tags
+pub tags_read : (s t : DeskState) (name : List ℕ) (es : List Entry) (tag len_tag : ℕ) (o n : Entry) → ((x : Entry) → x.tag ≡ tag → is_table x ≡ true) → ((x : Entry) → x.tag ≡ len_tag → is_table x ≡ true)
+    → find (λ x. x.tag == tag) es ≡ Some o → find (λ x. x.tag == len_tag) es ≡ Some n → Reads s t name (λ _. o.value ∷ n.value ∷ []) → Reads s t name (λ _. tables_in es)
+tags_read s t name es tag len_tag o n is len_is found len_found a =
+    reads_wider name s t (λ _. o.value ∷ n.value ∷ []) (λ _. tables_in es) a
+    (λ files told. two_in o.value n.value (tables_in es) (table_found (λ x. x.tag == tag) es o (is o (found_tag tag es o found)) found)
+    (table_found (λ x. x.tag == len_tag) es n (len_is n (found_tag len_tag es n len_found)) len_found))
+
+-- reads of one value, and then of another
+pub first_read : (s t : DeskState) (name : List ℕ) (o n : FileSpan) → Reads s t name (λ _. o ∷ []) → Reads s t name (λ _. o ∷ n ∷ [])
+first_read s t name o n a = reads_wider name s t (λ _. o ∷ []) (λ _. o ∷ n ∷ []) a (λ files told r h. Contains-append_left (o ∷ []) (n ∷ []) r h)
+
+pub both_read : (s t u : DeskState) (name : List ℕ) (o n : FileSpan) → Reads s t name (λ _. o ∷ []) → Reads t u name (λ _. n ∷ []) → Reads s u name (λ _. o ∷ n ∷ [])
+both_read s t u name o n a b =
+    reads_trans name s t u (λ _. o ∷ n ∷ []) (first_read s t name o n a)
+    (reads_wider name t u (λ _. n ∷ []) (λ _. o ∷ n ∷ []) b (λ files told r h. Contains-append_right (o ∷ []) (n ∷ []) r h))

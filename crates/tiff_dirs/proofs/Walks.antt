@@ -153,11 +153,11 @@ walk_head s t u name l n a few b double is =
     (walk_header t u name l.word (l.word + l.word) b (λ files told offsets w. let header = ap (λ (m : Layout). m.header) (is files (sym a.same.files ∙ told)) in omega (arith, header, double)))
 
 -- the next directory, whatever comes of it
-pub walk_next : (s t u : DeskState) (name : List ℕ) (l : Layout) (items : List ℕ) (found : List Reached) (pictures : List FileSpan) → length found < length items
+pub walk_next : (s t u : DeskState) (name : List ℕ) (l : Layout) (items : List ℕ) (found : List Reached) (pictures : List ℕ → List FileSpan) → length found < length items
     → Reads s t name (λ file. tables_of l file (take (length found) items)) → Reads t u name (λ file. tables_at l file (get_or items (length found) 0))
-    → Told s.files (λ files. l ≡ layout_of (bytes_of files name)) → Told s.files (λ files. Underway l (bytes_of files name) items found pictures) → WalkReads s u name
+    → Told s.files (λ files. l ≡ layout_of (bytes_of files name)) → Told s.files (λ files. Underway l (bytes_of files name) items found (pictures (bytes_of files name))) → WalkReads s u name
 walk_next s t u name l items found pictures within a b is under =
     let xs = take (length found) items in
     let x = get_or items (length found) 0 in
     walk_reads s u name l (xs ++ x ∷ []) (reads_more s t u name l xs (xs ++ x ∷ []) x a b (λ files told. refl)) is
-    (λ files told. in_whole l (bytes_of files name) xs x (is files told) (under files told).reaches (next_named l (bytes_of files name) items found pictures (under files told) within))
+    (λ files told. in_whole l (bytes_of files name) xs x (is files told) (under files told).reaches (next_named l (bytes_of files name) items found (pictures (bytes_of files name)) (under files told) within))

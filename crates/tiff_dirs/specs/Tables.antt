@@ -12,6 +12,7 @@ use Rattle.tiff_dirs.specs.declared.stop.WalkStop.{WalkStop}
 use Rattle.tiff_dirs.specs.declared.stop.WalkStop.TheVariants as walk
 use Rattle.tiff_dirs.specs.Numbers.{numbers}
 use Rattle.tiff_dirs.specs.Types.{size_of}
+use Rattle.tiff_dirs.specs.Parts.{IsPart}
 use Rattle.tiff_dirs.specs.Directories.{span, entries_at, end_at}
 
 -- SubIFDs, Exif, GPS and Interoperability directories; strips, tiles and JPEG interchange, with their lengths
@@ -67,6 +68,7 @@ pub record ItemsCall (l : Layout) (e : Entry) (count : ℕ) (s t : DeskState) (n
   pub size : IfOk result (λ bytes. length bytes ≡ size_of l e.code * count)
   pub items : IfOk result (λ bytes. Told s.files (λ files.
       numbers l.big (size_of l e.code) 0 count bytes ≡ numbers l.big (size_of l e.code) e.value.start count (bytes_of files name)))
+  pub part : IfOk result (λ bytes. Told s.files (λ files. IsPart bytes e.value.start (bytes_of files name)))
   pub device : result ≡ Err walk.Device → Rose s.faults t.faults
   pub fault : IfErr result IsNoFault
 

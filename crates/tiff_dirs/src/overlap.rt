@@ -6,43 +6,17 @@ ghost use Rattle.std.specs.Option.{option_map};
 ghost use Rattle.tiff_dirs.specs.Directories.{is_apart};
 ghost use Rattle.tiff_dirs.specs.Tiff.{entries_in};
 ghost use Rattle.tiff_dirs.specs.Overlaps.{apart_of, dir_span, named_in, own, overlap, place_of};
-ghost use Rattle.tiff_dirs.specs.Nearest.{meets, comes_before, closer, closest, MeetingAnswer, OverlapAnswer};
+ghost use Rattle.tiff_dirs.specs.Nearest.{closest, MeetingAnswer, OverlapAnswer};
 
 use crate::entry::Entry;
+use crate::kept_pairs::closest_kept;
 use crate::layout::Layout;
+use crate::spans::closer;
 use crate::stop::TiffStop;
 use crate::types::{fits, is_packet, size_of};
 use crate::walk::Dirs;
 use xmp_base::FileSpan;
 use xmp_values::Rule;
-
-/// Whether two ranges share a byte.
-fn meets(a: FileSpan, b: FileSpan) -> bool
-    ensures { result ≡ meets a b }
-{
-    a.start < b.end && b.start < a.end
-}
-
-/// Whether a range has a lesser start, or the same and no greater end.
-fn comes_before(a: FileSpan, b: FileSpan) -> bool
-    ensures { result ≡ comes_before a b }
-{
-    a.start < b.start || (a.start == b.start && a.end <= b.end)
-}
-
-/// The best so far, or one range more where that meets `own` and comes before it.
-#[tactic(auto, unfolding(crate::specs::Nearest::closer))]
-fn closer(own: FileSpan, best: Option<FileSpan>, other: FileSpan) -> Option<FileSpan>
-    ensures { result ≡ closer own best other }
-{
-    if !meets(own, other) {
-        return best;
-    }
-    match best {
-        Some(best) if comes_before(best, other) => Some(best),
-        _ => Some(other),
-    }
-}
 
 /// Whether a value stands apart from its entry.
 fn is_apart(layout: Layout, entry: &Entry) -> bool
@@ -116,11 +90,14 @@ impl Dirs {
     fn closest_picture(&self, own: FileSpan, best: Option<FileSpan>) -> Option<FileSpan>
         ensures { result ≡ closest own best self.now.pictures }
     {
-        let mut best = best;
-        for i in 0..self.pictures() {
-            best = closer(own, best, self.picture(i));
-        }
-        best
+        closest_kept(
+            self.layout.big,
+            self.len,
+            self.pieces.as_slice(),
+            self.pictures.list.as_slice(),
+            own,
+            best,
+        )
     }
 
     /// The place of a directory, with its count and the offset of the next.

@@ -6,6 +6,7 @@ use Rattle.tiff_dirs.specs.declared.stop.WalkStop.{WalkStop}
 use Rattle.tiff_dirs.specs.Directories.{named, chained, entries_at}
 use Rattle.tiff_dirs.specs.Pictures.{pictures_of, spans_of}
 use Rattle.tiff_dirs.specs.Faults.{entries_fault, pictures_fault, inner_fault}
+use Rattle.tiff_dirs.specs.Pairs.{spans_in}
 use Rattle.tiff_dirs.specs.Tables.{tables_at}
 use Rattle.tiff_dirs.specs.Walking.{StopsAt, Stops, capped}
 use Rattle.tiff_dirs.proofs.Loads.{reads_trans}
@@ -119,8 +120,8 @@ returns-in-Ok-keep-clause-answer g c = λ files told.
     let mid = c.fetch.ensures.call.calls.same.files ∙ told in
     let last = c.take_pictures.ensures.calls.same.files ∙ mid in
     let old = c.args.reached.now.items in
-    let seen = c.args.pictures.now.items in
-    let shown = c.take_pictures.new.pictures.items in
+    let seen = (spans_in l.big file c.args.pairs.now.items) in
+    let shown = (spans_in l.big file c.take_pictures.new.pairs.items) in
     let next = c.number_at-next.result in
     body_known l file first at n len next (at + l.count + l.entry * n + l.word) old c.reach_children.new.reached.items seen shown _ items (c.requires.told files told) count
     (read.0 ∙ entries_known l file c.as_slice.result.now at n is count c.requires.widths)
@@ -132,8 +133,9 @@ returns-in-Ok-keep-clause-answer g c = λ files told.
     refl refl refl
 
 pub returns-in-Ok-keep-clause-kept : goal.returns-in-Ok-keep-clause-kept
-returns-in-Ok-keep-clause-kept g c = λ files told.
+returns-in-Ok-keep-clause-kept g c = λ files told all.
     let call = c.in-Ok.ensures.call in
     c.in-Ok-keep.ensures (bytes_of files c.args.name.now)
     (is_part (bytes_of files c.args.name.now) c.as_slice.result.now (c.args.at + c.args.layout.count) (c.args.layout.entry * c.args.count + c.args.layout.word)
     (ap length c.as_slice.ensures ∙ call.size) (c.as_slice.ensures ∙ call.bytes files told))
+    (c.in-Ok-take_pictures.ensures.kept files (c.fetch.ensures.call.calls.same.files ∙ told) all)
