@@ -89,8 +89,11 @@ def reads_of(command):
     """How many reads a run makes of its file, and how many bytes; None without strace."""
     if not shutil.which("strace"):
         return None
-    told = subprocess.run(["strace", "-e", "trace=read,pread64", *command], capture_output=True, text=True, check=False).stderr
-    counts = [int(line.rsplit("=", 1)[1]) for line in told.splitlines() if line.startswith("pread64(")]
+    traced = ["strace", "-e", "trace=openat,read", *command]
+    told = subprocess.run(traced, capture_output=True, text=True, check=False).stderr
+    # the file is opened after the libraries
+    own = told[told.rindex("openat(") :].splitlines()[1:]
+    counts = [int(line.rsplit("=", 1)[1]) for line in own if line.startswith("read(")]
     return len(counts), sum(counts)
 
 
@@ -109,8 +112,11 @@ def beside_copy(name: str, command, file: str, out: str, runs: int):
     """A run and a copy of its file, in turns."""
     taken, copied = [], []
     for _ in range(runs):
-        copied.append(seconds_of(["cp", file, out]))
-        taken.append(seconds_of(command))
+        # A file that is there would be emptied first, which takes as long as the copy.
+        for times, made in ((copied, ["cp", file, out]), (taken, command)):
+            if os.path.exists(out):
+                os.remove(out)
+            times.append(seconds_of(made))
     show(name, min(taken), command, f"cp {min(copied) * 1000:.2f} ms, quotient {min(taken) / min(copied):.2f}")
 
 

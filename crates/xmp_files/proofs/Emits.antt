@@ -5,7 +5,7 @@ use Rattle.std.specs.Option.{option_map, unwrap_or}
 use Rattle.std.specs.Prelude.{All, MatchResult}
 use Rattle.std.specs.FinMap.{get, insert}
 use Rattle.std.proofs.Math.Seq.{take-add, drop-cons}
-use Rattle.std.proofs.lemmas.List.{append-nil, drop_all, take_all, take-append-drop, length-take-le, length-drop}
+use Rattle.std.proofs.lemmas.List.{append-nil, drop-drop, drop_all, take_all, take-append-drop, length-take-le, length-drop}
 use Rattle.std.proofs.lemmas.List.Elements.{All-append, All-weaker}
 use Rattle.std.proofs.lemmas.List.Sums.{sum_by-cons}
 use Rattle.xmp_base.specs.declared.device.Failed.{Failed}
@@ -17,6 +17,7 @@ use Rattle.xmp_base.proofs.Names.{get-insert_same, get-insert_other}
 use Rattle.xmp_base.proofs.Ends.{grows_none, grows_both, grows_part, still_none, len_insert, created_len, created_other}
 use Rattle.xmp_base.proofs.Calls.{counts_trans, rose_after, reads_none}
 use Rattle.xmp_base.proofs.Inside.{inside_none, inside_wider}
+use Rattle.jpeg_regions.specs.Jpeg.{span}
 use Rattle.jpeg_extended.specs.FromDesk.{payload_at}
 use Rattle.xmp_files.specs.declared.parts.FilePart.{FilePart}
 use Rattle.xmp_files.specs.declared.parts.FilePart.TheVariants as kept
@@ -161,6 +162,30 @@ part_copied s t from to range most (Err e) apart known small call =
     (λ files. payload_at (bytes_of files from) range) (λ _. []) (range.end - range.start) e e call (omega arith) (λ files. sym (append-nil (payload_at (bytes_of files from) range))) in
     record { reads = b.reads; grows = b.grows }
 
+-- A range that is put in two pieces.
+module _ (range : FileSpan) (mid : ℕ) (order : range.start ≤ mid) (within : mid ≤ range.end) where
+  abbrev pub halves : List Part
+  halves = Old (span range.start mid) ∷ Old (span mid range.end) ∷ []
+
+  halves_bytes : (file : List ℕ) → parts_bytes file halves ≡ payload_at file range
+  halves_bytes file =
+      let count : (mid - range.start) + (range.end - mid) ≡ range.end - range.start = omega (arith, order, within) in
+      let start : range.start + (mid - range.start) ≡ mid = omega (arith, order) in
+      let rest : drop mid file ≡ drop (mid - range.start) (drop range.start file) = ap (λ (n : ℕ). drop n file) (sym start) ∙ sym (drop-drop (mid - range.start) range.start file) in
+      ap (λ (l : List ℕ). payload_at file (span range.start mid) ++ l) (append-nil (payload_at file (span mid range.end)) ∙ ap (take (range.end - mid)) rest)
+      ∙ sym (take-add (mid - range.start) (range.end - mid) (drop range.start file))
+      ∙ ap (λ (n : ℕ). take n (drop range.start file)) count
+
+  halves_len : parts_len halves ≡ range.end - range.start
+  halves_len = omega (arith, order, within, sum_by-cons part_len (Old (span range.start mid)) (Old (span mid range.end) ∷ []), sum_by-cons part_len (Old (span mid range.end)) [])
+
+  pub halves_put : (s t : DeskState) (from to : List ℕ) (result : Result (Unit {0}) Failed) → PartsCall s t from to halves result → PartCall s t from to (Old range) result
+  halves_put s t from to result p = record {
+    reads = p.reads;
+    grows = subst (λ (n : ℕ). Grows s t to (λ files. payload_at (bytes_of files from) range) n most_piece result) halves_len
+        (subst (λ (b : Files → List ℕ). Grows s t to b (parts_len halves) most_piece result) (λ i files. halves_bytes (bytes_of files from) i) p.grows);
+  }
+
 pub part_put : (s t : DeskState) (from to bytes : List ℕ) (result : Result (Unit {0}) Failed) → PiecesCall s t to bytes result → PartCall s t from to (New bytes) result
 part_put s t from to bytes result call = record { reads = reads_none from s.reads t.reads call.reads; grows = call.grows }
 
@@ -205,6 +230,46 @@ standing_all s t from to all end a =
       grows = subst (λ (n : ℕ). Grows s t to (λ files. parts_bytes (bytes_of files from) all) n most_piece (Ok tt)) count
           (subst (λ (b : Files → List ℕ). Grows s t to b end most_piece (Ok tt)) (λ i files. is files i) a.front.grows);
     }
+
+-- A range is put in two pieces, the second after the first one.
+module _ (s t : DeskState) (from to : List ℕ) (range : FileSpan) (mid : ℕ) (apart : from ≢ to) (known : IsTrue (is_known s to)) (order : range.start ≤ mid) (within : mid ≤ range.end) (most : ℕ) (small : most ≤ most_piece) where
+  abbrev both : List Part
+  both = halves range mid order within
+
+  none : Standing s s from to both both 0
+  none = standing_none s from to both known
+
+  pub first_failed : (e : Failed) (result : Result (Unit {0}) Failed) → CopyCall s t from range.start (mid - range.start) to most (Err e) → IsErr result → PartCall s t from to (Old range) result
+  first_failed e result call err =
+      halves_put range mid order within s t from to result
+      (standing_stopped s s from to both (Old (span range.start mid)) (Old (span mid range.end) ∷ []) 0 apart none t e result
+      (part_copied s t from to (span range.start mid) most (Err e) apart known small call) err)
+
+  module _ (call : CopyCall s t from range.start (mid - range.start) to most (Ok tt)) where
+    half : Standing s t from to both (Old (span mid range.end) ∷ []) (0 + part_len (Old (span range.start mid)))
+    half =
+        standing_more s s from to both (Old (span range.start mid)) (Old (span mid range.end) ∷ []) 0 apart none t
+        (part_copied s t from to (span range.start mid) most (Ok tt) apart known small call)
+
+    pub half_from : IsTrue (is_known s from) → IsTrue (is_known t from)
+    half_from = front_from s t from to half.done _ apart half.front
+
+    pub half_to : IsTrue (is_known t to)
+    half_to = front_to s t from to half.done _ apart half.front
+
+    pub half_len : len_of t to ≡ len_of s to + (mid - range.start)
+    half_len = omega (arith, front_len s t from to half.done _ apart half.front)
+
+    pub half_size : len_of t from ≡ len_of s from
+    half_size = front_size s t from to half.done _ apart half.front
+
+    pub second_put : (u : DeskState) (later : ℕ) (result : Result (Unit {0}) Failed) → later ≤ most_piece → CopyCall t u from mid (range.end - mid) to later result → PartCall s u from to (Old range) result
+    second_put u later (Ok x) less last =
+        halves_put range mid order within s u from to (Ok tt)
+        (standing_all s u from to both _ (standing_more s t from to both (Old (span mid range.end)) [] _ apart half u (part_copied t u from to (span mid range.end) later (Ok tt) apart half_to less last)))
+    second_put u later (Err e) less last =
+        halves_put range mid order within s u from to (Err e)
+        (standing_stopped s t from to both (Old (span mid range.end)) [] _ apart half u e (Err e) (part_copied t u from to (span mid range.end) later (Err e) apart half_to less last) refl)
 
 -- the next of the parts that are kept
 pub next_part : (bytes : List ℕ) (parts : List FilePart) (i : ℕ) (x : FilePart) → i < length parts → parts_at bytes (drop i parts) ≡ part_at bytes (get_or parts i x) ∷ parts_at bytes (drop (i + 1) parts)

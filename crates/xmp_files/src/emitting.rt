@@ -1,28 +1,28 @@
 //! Writing the new file.
-ghost use Rattle.std.specs.Prelude.{◌≡◌, ◌≢◌, ◌+◌, ◌<◌, ◌≤◌, ◌^◌, All, length, IsTrue, Ok, Some};
+ghost use Rattle.std.specs.Prelude.{◌≡◌, ◌≢◌, ◌+◌, ◌-◌, ◌<◌, ◌≤◌, ◌^◌, All, length, IsTrue, Ok, Some};
 ghost use Rattle.std.specs.FinMap.{get};
 ghost use Rattle.xmp_base.specs.Device.{Told, is_known, len_of};
 ghost use Rattle.xmp_files.specs.Loading.{IsLoaded};
 ghost use Rattle.xmp_files.specs.Loads.{IsOfSize};
 ghost use Rattle.xmp_files.specs.NewFiles.{part_at, parts_at, PartLies};
-ghost use Rattle.xmp_files.specs.Planning.{part_len, parts_len};
+ghost use Rattle.xmp_files.specs.Planning.{Old, part_len, parts_len};
 ghost use Rattle.xmp_files.specs.Planneds.{IsNear};
 ghost use Rattle.xmp_files.specs.Emitting.{EmitCall, IsPlanFor, near_parts, PartCall, PartsCall, PiecesCall, most_piece};
 
 use crate::held::Held;
 use crate::parts::{FilePart, spliced};
 use crate::plans::Planned;
-use xmp_base::{Desk, Failed, append, copy_range};
+use xmp_base::{Desk, Failed, FileSpan, append, copy_range};
 
 /// The most bytes of a piece that is written.
-const PIECE: usize = 65536;
+const PIECE: usize = 131_072;
 
 /// Writes the file of a plan to the name `to`, whatever was there. `from` is the file that was loaded and
 /// planned for: what stays of it is copied. It takes no memory.
 ///
 /// # Errors
 /// `Failed` after a failure that the desk counted. Nothing was written then, or the file holds a prefix of the
-/// whole and at most 65,536 bytes that a failed write left.
+/// whole and at most 131,072 bytes that a failed write left.
 pub fn emit<D: Desk>(
     desk: &mut D,
     held: &Held,
@@ -127,15 +127,50 @@ fn put_part<D: Desk>(
     ensures call { PartCall (D.state desk.old) (D.state desk.new) from.now to.now (part_at bytes.now part) result }
 {
     match part {
-        FilePart::Old(range) => {
-            let len = range.end - range.start;
-            copy_range(desk, from, range.start, len, to, end, buffer)
-        }
+        FilePart::Old(range) => put_range(desk, from, to, end, range, buffer),
         FilePart::New(range) => {
             let piece = &bytes[range.start as usize..range.end as usize];
             put_pieces(desk, to, end, piece)
         }
     }
+}
+
+/// Where the first piece of a range ends that is put at the place `end` of a file: the pieces after it begin at
+/// multiples of their length, so that whole pages are written.
+fn first_end(range: FileSpan, end: u64) -> u64
+    requires { range.start ≤ range.end }
+    ensures from { range.start ≤ result }
+    ensures to { result ≤ range.end }
+{
+    let len = range.end - range.start;
+    range.start + len.min(PIECE as u64 - end % PIECE as u64)
+}
+
+/// Puts a range of the old file at the end of the new one.
+fn put_range<D: Desk>(
+    desk: &mut D,
+    from: &str,
+    to: &str,
+    end: u64,
+    range: FileSpan,
+    buffer: &mut [u8],
+) -> Result<(), Failed>
+    requires apart { from.now ≢ to.now }
+    requires source { IsTrue (is_known (D.state desk.old) from.now) }
+    requires target { IsTrue (is_known (D.state desk.old) to.now) }
+    requires at_end { len_of (D.state desk.old) to.now ≡ end }
+    requires order { range.start ≤ range.end }
+    requires inside { range.end ≤ len_of (D.state desk.old) from.now }
+    requires fits { range.end < 2 ^ 64 }
+    requires room { end + (range.end - range.start) < 2 ^ 64 }
+    requires some { 0 < length buffer.old }
+    requires small { length buffer.old ≤ most_piece }
+    ensures call { PartCall (D.state desk.old) (D.state desk.new) from.now to.now (Old range) result }
+{
+    let mid = first_end(range, end);
+    let first = mid - range.start;
+    copy_range(desk, from, range.start, first, to, end, buffer)?;
+    copy_range(desk, from, mid, range.end - mid, to, end + first, buffer)
 }
 
 /// Puts bytes at the end of a file, piece by piece.
