@@ -10,3 +10,5 @@ pub mod Judged
 pub mod NewHints
 pub mod Utf8Scripts
 pub mod SlotLemmas
+pub mod Apart
+pub mod Structures

@@ -46,3 +46,9 @@ module _ (F : List Member → Type 0) (P : Value → Type 0) (front : Bool) (nam
 
   pub kept_members : (makes : Bool) → IfGiven F (in_members change makes front name ms)
   kept_members makes = by makes (place_of name ms) refl
+
+-- any change keeps what asks nothing
+pub nothing_kept : (r : Result (Option Value) Rule) → IfGiven (IfSome' (λ v. Unit {0})) r
+nothing_kept (Ok (Some v)) = tt
+nothing_kept (Ok None) = tt
+nothing_kept (Err e) = tt

@@ -4,7 +4,7 @@ use Rattle.std.specs.Prelude.{slice_get, slice_set, remove, option_map, option_t
 use Rattle.std.specs.Option.{option_or, option_flatten}
 use Rattle.std.specs.Str.{bytes_eq}
 use Rattle.std.specs.Map.{lookup}
-use Rattle.std.specs.Ordering.{is_eq, nat_cmp}
+use Rattle.std.specs.Ordering.{is_eq, nat_cmp, ordering_then}
 use Rattle.std.specs.Cmp.{tied_then}
 use Rattle.std.specs.Cmp.Lexicographic.{slice_cmp}
 use Rattle.std.specs.BTreeMap.{BTreeMap, UpdatesBy, get, is_at}
@@ -30,7 +30,7 @@ use Rattle.xmp_paths.specs.declared.step.Step.{Step}
 use Rattle.xmp_paths.specs.Paths.{is_end}
 use Rattle.xmp_edit.specs.declared.slots.Slots.{Slots}
 use Rattle.xmp_edit.specs.Edits.{Change, ok_map, member_at, with_member, member_changed, in_members, at_place}
-use Rattle.xmp_edit.specs.Slots.{present, has, slot_of, Key, name_at, key_cmp, HasPlaces, slot_put, slot_changed, lists, presented}
+use Rattle.xmp_edit.specs.Slots.{present, has, slot_of, Key, name_at, key_cmp, HasPlaces, PlacesMore, slot_put, slot_changed, lists, presented}
 
 different_bools : true ≡ false → ⊥
 different_bools e = cc
@@ -147,7 +147,7 @@ pub changed_present : (change : Change) (makes : Bool) (n : Name) (ss : List (Op
     in_members change makes false n (present ss) ≡ ok_map present (slot_changed change ss i (slice_get ss i))
 changed_present change makes n ss i at = changed_there change ss i n (found_at n ss i at) makes
 
-pub presented_there : (r : Result Slots RuleStop) (there : Result (List (Option Member)) Rule) → Gives rule_of (lists r) there → Gives rule_of (presented r) (ok_map present there)
+pub presented_there : (r : Result (Slots Member) RuleStop) (there : Result (List (Option Member)) Rule) → Gives rule_of (lists r) there → Gives rule_of (presented r) (ok_map present there)
 presented_there (Ok s) there h = ap (ok_map present) h
 presented_there (Err stop) there h = by (rule_of stop) h
   where
@@ -285,43 +285,41 @@ keys_tie x y =
 updated : (key : Key) (old new : BTreeMap Key ℕ) (w : Option ℕ) → UpdatesBy key_cmp (key_cmp key) old new w → (q : Key) → get key_cmp new q ≡ cond (same_name (name_at key) (name_at q)) w (get key_cmp old q)
 updated key old new w updates q = updates.0 q ∙ ap (λ b. cond b w (get key_cmp old q)) (keys_tie key q)
 
-module _ (ss : List (Option Member)) (old : BTreeMap Key ℕ) (placed : HasPlaces old ss) where
-  -- a name that has a slot keeps it
-  pub placed_again : (key : Key) (m : Member) → is_some (get key_cmp old key) ≡ true → name_at key ≡ name_of m → HasPlaces old (ss ++ Some m ∷ [])
-  placed_again key m there keyed q =
-      placed q ∙ by (same_name (name_of m) (name_at q)) refl (slot_of (name_at q) ss) refl ∙ sym (slot_of-push (name_at q) ss (Some m))
-    where
-      had : same_name (name_of m) (name_at q) ≡ true → is_some (slot_of (name_at q) ss) ≡ true
-      had same =
-          let one : name_at key ≡ name_at q = keyed ∙ (same_name_is (name_of m) (name_at q)).0 same in
-          ap (λ n. is_some (slot_of n ss)) (sym one) ∙ ap (λ o. is_some o) (sym (placed key)) ∙ there
+-- names that are the same have one place in a map
+same_get : (old : BTreeMap Key ℕ) (x y : Key) → same_name (name_at x) (name_at y) ≡ true → get key_cmp old x ≡ get key_cmp old y
+same_get old x y same =
+    ap (λ (n : Name). lookup (λ (k : Key). is_eq (ordering_then (slice_cmp nat_cmp n.local k.0.items) (slice_cmp nat_cmp n.space k.1.items))) old.entries)
+    ((same_name_is (name_at x) (name_at y)).0 same)
 
-      by : (b : Bool) → same_name (name_of m) (name_at q) ≡ b → (o : Option ℕ) → slot_of (name_at q) ss ≡ o → o ≡ option_or o (cond b (Some (length ss)) None)
+module _ (key : Key) (at : ℕ) (old : BTreeMap Key ℕ) where
+  -- a name that is there keeps its place
+  pub more_again : is_some (get key_cmp old key) ≡ true → PlacesMore key at old old
+  more_again there q = by (same_name (name_at key) (name_at q)) refl (get key_cmp old q) refl
+    where
+      by : (b : Bool) → same_name (name_at key) (name_at q) ≡ b → (o : Option ℕ) → get key_cmp old q ≡ o → o ≡ option_or o (cond b (Some at) None)
       by b same (Some k) is = refl
       by false same None is = refl
-      by true same None is = absurd (different_bools (sym (ap (λ o. is_some o) (sym is) ∙ had same)))
+      by true same None is = absurd (different_bools (sym (ap (λ o. is_some o) (sym (same_get old key q same ∙ is)) ∙ there)))
 
-  -- a new name has the last slot
-  pub placed_more : (key : Key) (m : Member) (at : ℕ) (new : BTreeMap Key ℕ) → get key_cmp old key ≡ None → name_at key ≡ name_of m → at ≡ length ss →
-      UpdatesBy key_cmp (key_cmp key) old new (Some at) → HasPlaces new (ss ++ Some m ∷ [])
-  placed_more key m at new absent keyed last updates q =
-      updated key old new (Some at) updates q
-      ∙ ap (λ n. cond (same_name n (name_at q)) (Some at) (get key_cmp old q)) keyed
-      ∙ ap (λ o. cond (same_name (name_of m) (name_at q)) (Some at) o) (placed q)
-      ∙ ap (λ k. cond (same_name (name_of m) (name_at q)) (Some k) (slot_of (name_at q) ss)) last
-      ∙ by (same_name (name_of m) (name_at q)) refl (slot_of (name_at q) ss) refl
-      ∙ sym (slot_of-push (name_at q) ss (Some m))
+  -- a new name has this place
+  pub more_put : (new : BTreeMap Key ℕ) → get key_cmp old key ≡ None → UpdatesBy key_cmp (key_cmp key) old new (Some at) → PlacesMore key at old new
+  more_put new absent updates q = updated key old new (Some at) updates q ∙ by (same_name (name_at key) (name_at q)) refl (get key_cmp old q) refl
     where
-      free : same_name (name_of m) (name_at q) ≡ true → slot_of (name_at q) ss ≡ None
-      free same =
-          let one : name_at key ≡ name_at q = keyed ∙ (same_name_is (name_of m) (name_at q)).0 same in
-          ap (λ n. slot_of n ss) (sym one) ∙ sym (placed key) ∙ absent
-
-      by : (b : Bool) → same_name (name_of m) (name_at q) ≡ b → (o : Option ℕ) → slot_of (name_at q) ss ≡ o → cond b (Some (length ss)) o ≡ option_or o (cond b (Some (length ss)) None)
+      by : (b : Bool) → same_name (name_at key) (name_at q) ≡ b → (o : Option ℕ) → get key_cmp old q ≡ o → cond b (Some at) o ≡ option_or o (cond b (Some at) None)
       by false same (Some k) is = refl
       by false same None is = refl
       by true same None is = refl
-      by true same (Some k) is = absurd (none-some k (sym (free same) ∙ is))
+      by true same (Some k) is = absurd (none-some k (sym absent ∙ same_get old key q same ∙ is))
+
+module _ (ss : List (Option Member)) (old : BTreeMap Key ℕ) (placed : HasPlaces old ss) where
+  -- one more member, and its name
+  pub placed_more : (key : Key) (m : Member) (at : ℕ) (new : BTreeMap Key ℕ) → name_at key ≡ name_of m → at ≡ length ss → PlacesMore key at old new → HasPlaces new (ss ++ Some m ∷ [])
+  placed_more key m at new keyed last more q =
+      more q
+      ∙ ap (λ n. option_or (get key_cmp old q) (cond (same_name n (name_at q)) (Some at) None)) keyed
+      ∙ ap (λ k. option_or (get key_cmp old q) (cond (same_name (name_of m) (name_at q)) (Some k) None)) last
+      ∙ ap (λ o. option_or o (cond (same_name (name_of m) (name_at q)) (Some (length ss)) None)) (placed q)
+      ∙ sym (slot_of-push (name_at q) ss (Some m))
 
   -- a name keeps its slot where its value changes
   pub placed_put : (i : ℕ) (m : Member) (v : Value) → slice_get ss i ≡ Some (Some m) → HasPlaces old (slice_set ss i (Some (member (name_of m) v)))

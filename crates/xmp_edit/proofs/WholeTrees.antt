@@ -1,10 +1,9 @@
 -- An edit of an allowed path keeps a tree well-formed.
-use Rattle.std.proofs.Common.{◌≡◌, ◌≢◌, ◌∙◌, suc, Bool, false, ◌&&◌, List, Option, Some, None, take, drop, sym, subst}
+use Rattle.std.proofs.Common.{◌≡◌, ◌≢◌, ◌∙◌, suc, Bool, false, ◌&&◌, List, take, drop, sym, subst}
 use Rattle.std.specs.Prelude.{All, Result, Ok, Err}
 use Rattle.std.proofs.lemmas.List.Elements.{All-set, All-push, All-append, All-take, All-drop}
 use Rattle.xmp_values.specs.declared.text.Name.{Name}
 use Rattle.xmp_values.specs.declared.rules.Rule.{Rule}
-use Rattle.xmp_tree.specs.declared.nested.Value.{Value}
 use Rattle.xmp_tree.specs.declared.nested.Member.{Member}
 use Rattle.xmp_tree.specs.Parts.{Parts, member}
 use Rattle.xmp_tree.specs.Wf.{name_of, AreWellFormed, Wf, note_name}
@@ -15,17 +14,12 @@ use Rattle.xmp_paths.specs.Paths.{is_end}
 use Rattle.xmp_paths.specs.Parts.{PathParts}
 use Rattle.xmp_paths.specs.Allowed.{IsAllowedPath}
 use Rattle.xmp_edit.specs.Actions.{change_of, makes}
-use Rattle.xmp_edit.specs.Allowed.{IsAllowed, KeepsLast, IfSome', IfGiven}
+use Rattle.xmp_edit.specs.Allowed.{IsAllowed, KeepsLast, IfGiven}
 use Rattle.xmp_edit.specs.declared.edit.Edit.{Edit}
 use Rattle.xmp_edit.specs.Law.{EditKeeps}
-use Rattle.xmp_edit.proofs.Members.{kept_members}
+use Rattle.xmp_edit.proofs.Members.{kept_members, nothing_kept}
 use Rattle.xmp_edit.proofs.Kept.{keeps_last}
 use Rattle.xmp_edit.proofs.Steps.{fields_kept, place_kept}
-
-nothing_kept : (r : Result (Option Value) Rule) → IfGiven (IfSome' (λ v. Unit {0})) r
-nothing_kept (Ok (Some v)) = tt
-nothing_kept (Ok None) = tt
-nothing_kept (Err e) = tt
 
 -- the note stays out
 pub no_note : (n : Name) → n ≢ note_name → (change : Change) (makes : Bool) (ms : List Member) → All (λ m. name_of m ≢ note_name) ms →

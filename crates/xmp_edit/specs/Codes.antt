@@ -1,4 +1,4 @@
--- How items and a property are stored, for the private parts of a type that contracts see as these.
+-- How items, fields and a property are stored, for the private parts of a type that contracts see as these.
 use mir.Syntax.{named}
 use Rattle.std.specs.Prelude.{List, []}
 use Rattle.std.specs.Coded.{Coded, coded_list}
@@ -15,3 +15,9 @@ items_code = coded_list (the_value.the_row record { mir = named 1; lft = [] }).c
 
 abbrev pub property_code : Coded Member
 property_code = (the_member.the_row record { mir = named 1; lft = [] }).coded
+
+abbrev pub FieldList : Type 0
+FieldList = List Member
+
+abbrev pub fields_code : Coded FieldList
+fields_code = coded_list property_code

@@ -4,6 +4,7 @@ use Prim.Native.Nat.{suc}
 use Rattle.std.specs.Prelude.{◌≡◌, ℕ, Bool, false, if◌then◌else◌, List, [], ◌∷◌, Option, Some, None, option_map, Vec, Result, Ok, Err, slice_set}
 use Rattle.std.specs.declared.alloc.Global.{Global}
 use Rattle.std.specs.declared.cmp.Ordering.{Ordering}
+use Rattle.std.specs.Option.{option_or}
 use Rattle.std.specs.Ordering.{ordering_then, nat_cmp}
 use Rattle.std.specs.Cmp.Lexicographic.{slice_cmp}
 use Rattle.std.specs.BTreeMap.{BTreeMap, get}
@@ -49,6 +50,10 @@ key_cmp x y = ordering_then (slice_cmp nat_cmp x.0.items y.0.items) (slice_cmp n
 abbrev pub HasPlaces : BTreeMap Key ℕ → List (Option Member) → Type 0
 HasPlaces places ss = (key : Key) → get key_cmp places key ≡ slot_of (name_at key) ss
 
+-- a map with one name more, unless it has it
+abbrev pub PlacesMore : Key → ℕ → BTreeMap Key ℕ → BTreeMap Key ℕ → Type 0
+PlacesMore key at old new = (q : Key) → get key_cmp new q ≡ option_or (get key_cmp old q) (if same_name (name_at key) (name_at q) then Some at else None)
+
 -- a change of the member in a slot
 abbrev pub slot_put : List (Option Member) → ℕ → Member → Option Value → List (Option Member)
 slot_put ss i m (Some v) = slice_set ss i (Some (member (name_of m) v))
@@ -60,10 +65,10 @@ slot_changed change ss i (Some None) = Err NoSuchPlace
 slot_changed change ss i None = Err NoSuchPlace
 
 -- what a call that returns slots gave
-abbrev pub lists : Result Slots RuleStop → Result (List (Option Member)) RuleStop
+abbrev pub lists : Result (Slots Member) RuleStop → Result (List (Option Member)) RuleStop
 lists (Ok s) = Ok s.list
 lists (Err stop) = Err stop
 
-abbrev pub presented : Result Slots RuleStop → Result (List Member) RuleStop
+abbrev pub presented : Result (Slots Member) RuleStop → Result (List Member) RuleStop
 presented (Ok s) = Ok (present s.list)
 presented (Err stop) = Err stop

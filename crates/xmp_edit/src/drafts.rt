@@ -5,6 +5,7 @@ ghost use Rattle.xmp_edit.specs.Allowed.{IsAllowed};
 ghost use Rattle.xmp_edit.specs.Scripts.{edited};
 
 use crate::edit::Edit;
+use crate::properties::Property;
 use crate::slots::{Slots, in_slots, members_of, slots_of};
 use std::alloc::Global;
 use std::marker::Model;
@@ -16,7 +17,7 @@ use xmp_values::{Memory, RuleStop, Text};
 #[derive(Drop)]
 pub struct Draft<'p> {
     about: Text<'p>,
-    slots: Slots<'p>,
+    slots: Slots<Property<'p>>,
 }
 
 impl<'p> Model for Draft<'p> {

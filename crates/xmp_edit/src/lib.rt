@@ -10,6 +10,7 @@ mod action;
 mod changing;
 mod drafts;
 mod edit;
+mod fields;
 mod given;
 mod judging;
 mod laws;

@@ -90,7 +90,7 @@ fn stepped<'p>(
 
 /// Members after an edit at a name and after it.
 #[cycle(edit)]
-fn in_members<'p>(
+pub fn in_members<'p>(
     alloc: Global,
     rest: &[Step],
     action: &Action,

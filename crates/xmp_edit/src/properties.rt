@@ -1,23 +1,26 @@
-//! Properties while edits are made: the items of an array stand in a queue from its first edit on.
-ghost use Rattle.std.specs.Prelude.{◌≡◌, ◌&&◌, slice_get, Some, None, option_map, IfOk};
+//! Properties while edits are made: the items of an array stand in a queue from its first edit on, and
+//! the fields of a structure are found through a map from its 17th on.
+ghost use Rattle.std.specs.Prelude.{◌≡◌, ◌&&◌, false, slice_get, Some, None, option_map, IfOk};
 ghost use Rattle.xmp_values.specs.Stops.{Gives, rule_of};
 ghost use Rattle.xmp_tree.specs.Parts.{member, value};
-ghost use Rattle.xmp_tree.specs.Wf.{name_of, value_of};
-ghost use Rattle.xmp_tree.specs.declared.nested.Shape.{Array};
+ghost use Rattle.xmp_tree.specs.Wf.{name_of, value_of, lang_name};
+ghost use Rattle.xmp_tree.specs.Places.{same_name};
+ghost use Rattle.xmp_tree.specs.declared.nested.Shape.{Array, Struct};
 ghost use Rattle.xmp_paths.specs.Paths.{is_end};
 ghost use Rattle.xmp_edit.specs.Actions.{appended, inserted, change_of, makes};
-ghost use Rattle.xmp_edit.specs.Edits.{ok_map, at_place, in_items, item_at, with_item};
+ghost use Rattle.xmp_edit.specs.Edits.{ok_map, at_place, on_value, stepped, in_members, in_items, item_at, with_item};
 ghost use Rattle.xmp_edit.specs.Properties.{whole, wholes};
 
 use crate::action::{Action, makes};
 use crate::changing::{changed, simple};
-use crate::places::{at_place, is_end};
+use crate::fields::Fields;
+use crate::places::{at_place, in_members, is_end};
 use crate::queues::ItemQueue;
 use std::alloc::Global;
 use std::marker::Model;
 use xmp_paths::Step;
-use xmp_tree::{Kind, Member, Members, Shape, Value, copy_text};
-use xmp_values::{Name, Rule, RuleStop, Text};
+use xmp_tree::{Kind, Member, Members, Shape, Value, copy_text, is_front};
+use xmp_values::{Memory, Name, Rule, RuleStop, Text, names_differ};
 
 /// A value while edits are made.
 #[derive(Drop)]
@@ -26,13 +29,20 @@ pub enum Held<'p> {
     Plain(Value<'p>),
     /// An array: its kind, its items and its qualifiers.
     Queued(Kind, ItemQueue<'p>, Members<'p>),
+    /// A structure: its fields and its qualifiers.
+    Slotted(Fields<'p>, Members<'p>),
 }
+
+/// How many edits of a property are made by scans of its fields, before a map is made of them.
+const FEW: u8 = 16;
 
 /// A property. To contracts it is the member of a tree that it stands for.
 #[derive(Drop)]
 pub struct Property<'p> {
     name: Name<'p>,
     held: Held<'p>,
+    /// How many edits were made of it, up to `FEW`.
+    edits: u8,
 }
 
 impl<'p> Model for Property<'p> {
@@ -58,18 +68,21 @@ impl<'p> Property<'p> {
         Property {
             name,
             held: Held::Plain(value),
+            edits: 0,
         }
     }
 
     /// The member of a tree that it stands for.
-    pub fn into_member(self) -> Member<'p>
-        ensures { result ≡ self.entry }
+    pub fn into_member(self, alloc: Global) -> Result<Member<'p>, Memory>
+        ensures { IfOk result (λ m. m ≡ self.entry) }
     {
-        let Property { name, held } = self;
-        Member {
+        let Property {
             name,
-            value: whole(held),
-        }
+            held,
+            edits: _edits,
+        } = self;
+        let value = whole(alloc, held)?;
+        Ok(Member { name, value })
     }
 
     /// The property after an edit at steps from its value, unless the edit takes it out.
@@ -81,37 +94,67 @@ impl<'p> Property<'p> {
     ) -> Result<Option<Property<'p>>, RuleStop>
         ensures { Gives rule_of result (ok_map (option_map (member (name_of self.entry))) (at_place steps.now (change_of action.now) (makes action.now) (Some (value_of self.entry)))) }
     {
-        let Property { name, held } = self;
+        let Property { name, held, edits } = self;
+        let held = opened(alloc, held, edits == FEW)?;
+        let edits = if edits < FEW { edits + 1 } else { FEW };
         match in_held(alloc, steps, action, held)? {
-            Some(held) => Ok(Some(Property { name, held })),
+            Some(held) => Ok(Some(Property { name, held, edits })),
             None => Ok(None),
         }
     }
 }
 
 /// The value as it stands in a tree.
-fn whole<'p>(held: Held<'p>) -> Value<'p>
-    ensures { result ≡ whole held.entry }
+fn whole<'p>(alloc: Global, held: Held<'p>) -> Result<Value<'p>, Memory>
+    ensures { IfOk result (λ v. v ≡ whole held.entry) }
 {
     match held {
-        Held::Plain(value) => value,
+        Held::Plain(value) => Ok(value),
         Held::Queued(kind, items, quals) => {
             let shape = Shape::Array(kind, items.into_items());
-            Value { shape, quals }
+            Ok(Value { shape, quals })
+        }
+        Held::Slotted(fields, quals) => {
+            let shape = Shape::Struct(fields.into_members(alloc)?);
+            Ok(Value { shape, quals })
         }
     }
 }
 
-/// The same value, with the items of an array in a queue.
-fn queued<'p>(held: Held<'p>) -> Held<'p>
-    ensures { whole result ≡ whole held.entry }
+/// The same value, with the items of an array in a queue, and the fields of a structure in slots if
+/// the property is edited often.
+fn opened<'p>(alloc: Global, held: Held<'p>, often: bool) -> Result<Held<'p>, Memory>
+    ensures { IfOk result (λ h. whole h ≡ whole held.entry) }
 {
     match held {
         Held::Plain(Value { shape, quals }) => match shape {
-            Shape::Array(kind, items) => Held::Queued(kind, ItemQueue::of(items), quals),
-            _ => Held::Plain(Value { shape, quals }),
+            Shape::Array(kind, items) => Ok(Held::Queued(kind, ItemQueue::of(items), quals)),
+            Shape::Struct(fields) => {
+                if often {
+                    slotted(alloc, fields, quals)
+                } else {
+                    let shape = Shape::Struct(fields);
+                    Ok(Held::Plain(Value { shape, quals }))
+                }
+            }
+            _ => Ok(Held::Plain(Value { shape, quals })),
         },
-        Held::Queued(kind, items, quals) => Held::Queued(kind, items, quals),
+        Held::Queued(kind, items, quals) => Ok(Held::Queued(kind, items, quals)),
+        Held::Slotted(fields, quals) => Ok(Held::Slotted(fields, quals)),
+    }
+}
+
+/// A structure with its fields in slots.
+fn slotted<'p>(alloc: Global, fields: Members<'p>, quals: Members<'p>) -> Result<Held<'p>, Memory>
+    ensures { IfOk result (λ h. whole h ≡ value (Struct fields.entry) quals.entry) }
+{
+    // The names of a tree differ, which no clause tells here.
+    if names_differ(alloc, fields.as_slice())? {
+        let fields = Fields::of(alloc, fields)?;
+        Ok(Held::Slotted(fields, quals))
+    } else {
+        let shape = Shape::Struct(fields);
+        Ok(Held::Plain(Value { shape, quals }))
     }
 }
 
@@ -124,9 +167,10 @@ fn in_held<'p>(
 ) -> Result<Option<Held<'p>>, RuleStop>
     ensures { Gives rule_of (wholes result) (at_place steps.now (change_of action.now) (makes action.now) (Some (whole held.entry))) }
 {
-    match queued(held) {
-        Held::Queued(kind, items, quals) => { in_queued(alloc, steps, action, kind, items, quals) }
+    match held {
         Held::Plain(value) => in_plain(alloc, steps, action, value),
+        Held::Queued(kind, items, quals) => in_queued(alloc, steps, action, kind, items, quals),
+        Held::Slotted(fields, quals) => in_slotted(alloc, steps, action, fields, quals),
     }
 }
 
@@ -142,6 +186,86 @@ fn in_plain<'p>(
     match at_place(alloc, steps, action, Some(value))? {
         Some(value) => Ok(Some(Held::Plain(value))),
         None => Ok(None),
+    }
+}
+
+/// A structure after an edit at the end of steps.
+fn in_slotted<'p>(
+    alloc: Global,
+    steps: &[Step],
+    action: &Action,
+    fields: Fields<'p>,
+    quals: Members<'p>,
+) -> Result<Option<Held<'p>>, RuleStop>
+    ensures { Gives rule_of (wholes result) (at_place steps.now (change_of action.now) (makes action.now) (Some (value (Struct fields.entry) quals.entry))) }
+{
+    match steps {
+        [] => in_structure(alloc, action, fields, quals),
+        [step, rest @ ..] => in_part(alloc, step, rest, action, fields, quals),
+    }
+}
+
+/// A structure after an edit after a step.
+fn in_part<'p>(
+    alloc: Global,
+    step: &Step,
+    rest: &[Step],
+    action: &Action,
+    fields: Fields<'p>,
+    quals: Members<'p>,
+) -> Result<Option<Held<'p>>, RuleStop>
+    ensures { Gives rule_of (wholes result) (on_value (stepped (at_place rest.now (change_of action.now) (makes action.now)) (makes action.now && is_end rest.now) step.now) (Some (value (Struct fields.entry) quals.entry))) }
+{
+    match step {
+        Step::Field(name) => in_fields(alloc, name, rest, action, fields, quals),
+        Step::Qualifier(name) => in_quals(alloc, name, rest, action, fields, quals),
+        _ => Err(RuleStop::Fault(Rule::WrongShape)),
+    }
+}
+
+/// A structure after an edit after a field.
+fn in_fields<'p>(
+    alloc: Global,
+    name: &Name<'_>,
+    rest: &[Step],
+    action: &Action,
+    fields: Fields<'p>,
+    quals: Members<'p>,
+) -> Result<Option<Held<'p>>, RuleStop>
+    ensures { Gives rule_of (wholes result) (ok_map (λ ms. Some (value (Struct ms) quals.entry)) (in_members (at_place rest.now (change_of action.now) (makes action.now)) (makes action.now && is_end rest.now) false name.now fields.entry)) }
+{
+    let fields = fields.edited(alloc, name, rest, action)?;
+    Ok(Some(Held::Slotted(fields, quals)))
+}
+
+/// A structure after an edit after a qualifier.
+fn in_quals<'p>(
+    alloc: Global,
+    name: &Name<'_>,
+    rest: &[Step],
+    action: &Action,
+    fields: Fields<'p>,
+    quals: Members<'p>,
+) -> Result<Option<Held<'p>>, RuleStop>
+    ensures { Gives rule_of (wholes result) (ok_map (λ ms. Some (value (Struct fields.entry) ms)) (in_members (at_place rest.now (change_of action.now) (makes action.now)) (makes action.now && is_end rest.now) (same_name name.now lang_name) name.now quals.entry)) }
+{
+    let quals = in_members(alloc, rest, action, is_front(name), name, quals)?;
+    Ok(Some(Held::Slotted(fields, quals)))
+}
+
+/// A structure after an edit of it.
+fn in_structure<'p>(
+    alloc: Global,
+    action: &Action,
+    fields: Fields<'p>,
+    quals: Members<'p>,
+) -> Result<Option<Held<'p>>, RuleStop>
+    ensures { Gives rule_of (wholes result) (change_of action.now (Some (value (Struct fields.entry) quals.entry))) }
+{
+    match action {
+        Action::MakeStruct => Ok(Some(Held::Slotted(fields, quals))),
+        Action::Delete => Ok(None),
+        _ => Err(RuleStop::Fault(Rule::WrongShape)),
     }
 }
 

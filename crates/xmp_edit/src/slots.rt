@@ -7,7 +7,7 @@ ghost use Rattle.xmp_tree.specs.Wf.{name_of, NamesDiffer};
 ghost use Rattle.xmp_paths.specs.Paths.{is_end};
 ghost use Rattle.xmp_edit.specs.Actions.{change_of, makes};
 ghost use Rattle.xmp_edit.specs.Edits.{ok_map, at_place, with_member, in_props};
-ghost use Rattle.xmp_edit.specs.Slots.{present, slot_of, name_at, HasPlaces, slot_changed, lists, presented};
+ghost use Rattle.xmp_edit.specs.Slots.{present, slot_of, name_at, HasPlaces, PlacesMore, slot_changed, lists, presented};
 
 use crate::action::{Action, makes};
 use crate::changing::changed;
@@ -20,17 +20,20 @@ use xmp_tree::{Member, Members, copy_name};
 use xmp_values::{Memory, Name, Rule, RuleStop, Sequence};
 
 /// A name as it is looked up: its local part, which tells most names apart, and its namespace.
-type Key = (Vec<u8>, Vec<u8>);
+pub type Key = (Vec<u8>, Vec<u8>);
+
+/// The slot of each name. It has keys of its own, since the members come and go.
+pub type Places = BTreeMap<Key, usize>;
 
 /// Members in their order, with empty slots where some were taken out.
 #[derive(Drop)]
-pub struct Slots<'p> {
-    pub list: Sequence<Option<Property<'p>>>,
-    /// The slot of each name. It has keys of its own, since the members come and go.
+pub struct Slots<M> {
+    pub list: Sequence<Option<M>>,
     pub places: BTreeMap<(Vec<u8>, Vec<u8>), usize>,
 }
 
-fn key_of(alloc: Global, name: &Name<'_>) -> Result<Key, Memory>
+/// The key of a name.
+pub fn key_of(alloc: Global, name: &Name<'_>) -> Result<Key, Memory>
     ensures { IfOk result (λ key. name_at key ≡ name.now) }
 {
     let local = Vec::from_slice(alloc, name.local.bytes())?;
@@ -38,8 +41,24 @@ fn key_of(alloc: Global, name: &Name<'_>) -> Result<Key, Memory>
     Ok((local, space))
 }
 
+/// The places with one more name, unless it has one.
+pub fn placed(places: Places, key: Key, at: usize) -> Result<Places, Memory>
+    ensures { IfOk result (λ new. PlacesMore key at places new) }
+{
+    if places.contains_key(&key) {
+        return Ok(places);
+    }
+    let mut places = places;
+    places.insert(key, at)?;
+    Ok(places)
+}
+
 /// One member more, whose key this is.
-fn pushed<'p>(slots: Slots<'p>, key: Key, member: Member<'p>) -> Result<Slots<'p>, Memory>
+fn pushed<'p>(
+    slots: Slots<Property<'p>>,
+    key: Key,
+    member: Member<'p>,
+) -> Result<Slots<Property<'p>>, Memory>
     requires keyed { name_at key ≡ name_of member }
     requires placed { HasPlaces slots.places slots.list }
     ensures list { IfOk result (λ s. s.list ≡ slots.entry.list ++ Some member.entry ∷ []) }
@@ -47,19 +66,13 @@ fn pushed<'p>(slots: Slots<'p>, key: Key, member: Member<'p>) -> Result<Slots<'p
 {
     let Slots { list, places } = slots;
     let mut list = list;
-    let property = Property::of(member);
-    if places.contains_key(&key) {
-        list.push(Some(property))?;
-        return Ok(Slots { list, places });
-    }
-    let mut places = places;
-    places.insert(key, list.len())?;
-    list.push(Some(property))?;
+    let places = placed(places, key, list.len())?;
+    list.push(Some(Property::of(member)))?;
     Ok(Slots { list, places })
 }
 
 /// The slots of members.
-pub fn slots_of<'p>(alloc: Global, members: Members<'p>) -> Result<Slots<'p>, Memory>
+pub fn slots_of<'p>(alloc: Global, members: Members<'p>) -> Result<Slots<Property<'p>>, Memory>
     ensures members { IfOk result (λ s. present s.list ≡ members.entry) }
     ensures placed { IfOk result (λ s. HasPlaces s.places s.list) }
 {
@@ -75,13 +88,17 @@ pub fn slots_of<'p>(alloc: Global, members: Members<'p>) -> Result<Slots<'p>, Me
 }
 
 /// Members with that of a slot.
-fn with_slot<'p>(members: Members<'p>, slot: Option<Property<'p>>) -> Result<Members<'p>, Memory>
+fn with_slot<'p>(
+    alloc: Global,
+    members: Members<'p>,
+    slot: Option<Property<'p>>,
+) -> Result<Members<'p>, Memory>
     ensures { IfOk result (λ ms. ms ≡ members.entry ++ option_to_list slot.entry) }
 {
     let mut members = members;
     match slot {
         Some(property) => {
-            members.push(property.into_member())?;
+            members.push(property.into_member(alloc)?)?;
             Ok(members)
         }
         None => Ok(members),
@@ -89,7 +106,7 @@ fn with_slot<'p>(members: Members<'p>, slot: Option<Property<'p>>) -> Result<Mem
 }
 
 /// The members that are there.
-pub fn members_of<'p>(alloc: Global, slots: Slots<'p>) -> Result<Members<'p>, Memory>
+pub fn members_of<'p>(alloc: Global, slots: Slots<Property<'p>>) -> Result<Members<'p>, Memory>
     ensures { IfOk result (λ ms. ms ≡ present slots.entry.list) }
 {
     let Slots {
@@ -98,14 +115,14 @@ pub fn members_of<'p>(alloc: Global, slots: Slots<'p>) -> Result<Members<'p>, Me
     } = slots;
     let mut members = Members::new(alloc);
     for slot in list.into_vec() {
-        members = with_slot(members, slot)?;
+        members = with_slot(alloc, members, slot)?;
     }
     Ok(members)
 }
 
-/// Moves the property out of a slot.
-fn emptied<'p>(list: &mut Sequence<Option<Property<'p>>>, at: usize) -> Option<Property<'p>>
-    ensures property { result ≡ option_flatten (slice_get list.old at) }
+/// Moves the member out of a slot.
+pub fn emptied<M>(list: &mut Sequence<Option<M>>, at: usize) -> Option<M>
+    ensures member { result ≡ option_flatten (slice_get list.old at) }
     ensures rest { IfSome (slice_get list.old at) (λ s. list.new ≡ slice_set list.old at None) }
 {
     match list.get_mut(at) {
@@ -114,12 +131,12 @@ fn emptied<'p>(list: &mut Sequence<Option<Property<'p>>>, at: usize) -> Option<P
     }
 }
 
-/// Moves a property into a slot.
-fn filled<'p>(list: &mut Sequence<Option<Property<'p>>>, at: usize, property: Property<'p>)
-    ensures { IfSome (slice_get list.old at) (λ s. list.new ≡ slice_set list.old at (Some property.entry)) }
+/// Moves a member into a slot.
+pub fn filled<M: Drop>(list: &mut Sequence<Option<M>>, at: usize, member: M)
+    ensures { IfSome (slice_get list.old at) (λ s. list.new ≡ slice_set list.old at (Some member)) }
 {
     if let Some(slot) = list.get_mut(at) {
-        *slot = Some(property);
+        *slot = Some(member);
     }
 }
 
@@ -128,10 +145,10 @@ fn slot_changed<'p>(
     alloc: Global,
     path: &Path,
     action: &Action,
-    slots: Slots<'p>,
+    slots: Slots<Property<'p>>,
     key: &Key,
     at: usize,
-) -> Result<Slots<'p>, RuleStop>
+) -> Result<Slots<Property<'p>>, RuleStop>
     requires here { slot_of (name_at key.now) slots.list ≡ Some at }
     requires apart { NamesDiffer (present slots.list) }
     requires placed { HasPlaces slots.places slots.list }
@@ -161,9 +178,9 @@ fn slot_made<'p>(
     alloc: Global,
     name: &Name<'_>,
     action: &Action,
-    slots: Slots<'p>,
+    slots: Slots<Property<'p>>,
     key: Key,
-) -> Result<Slots<'p>, RuleStop>
+) -> Result<Slots<Property<'p>>, RuleStop>
     requires keyed { name_at key ≡ name.now }
     requires placed { HasPlaces slots.places slots.list }
     ensures gives { Gives rule_of (presented result) (ok_map (with_member false name.now (present slots.entry.list)) (change_of action.now None)) }
@@ -179,7 +196,7 @@ fn slot_made<'p>(
 }
 
 /// Whether a missing property is made by an edit at the end of steps.
-fn makes_there(action: &Action, steps: &[Step]) -> bool
+pub fn makes_there(action: &Action, steps: &[Step]) -> bool
     ensures { result ≡ (makes action.now && is_end steps.now) }
 {
     makes(action) && is_end(steps)
@@ -190,8 +207,8 @@ pub fn in_slots<'p>(
     alloc: Global,
     path: &Path,
     action: &Action,
-    slots: Slots<'p>,
-) -> Result<Slots<'p>, RuleStop>
+    slots: Slots<Property<'p>>,
+) -> Result<Slots<Property<'p>>, RuleStop>
     requires apart { NamesDiffer (present slots.list) }
     requires placed { HasPlaces slots.places slots.list }
     ensures gives { Gives rule_of (presented result) (in_props path.now (change_of action.now) (makes action.now) (present slots.entry.list)) }

@@ -15,7 +15,7 @@ returns-in-Some-2-clause-gives c =
     let ss = c.args.slots.list in
     let m = c.in-Some.property in
     let change = at_place c.args.path.now.steps (change_of c.args.action.now) (makes c.args.action.now) in
-    let here = slot_had (slice_get ss c.args.at) m (sym c.in-Some.is ∙ c.emptied.ensures.property) in
+    let here = slot_had (slice_get ss c.args.at) m (sym c.in-Some.is ∙ c.emptied.ensures.member) in
     let gave : ok_map (option_map (member (name_of m))) (change (Some (value_of m))) ≡ Ok (Some c.in-Some-2.property) =
     ap (λ (steps : List Step). ok_map (option_map (member (name_of m))) (at_place steps (change_of c.args.action.now) (makes c.args.action.now) (Some (value_of m)))) (sym c.steps.ensures.steps)
     ∙ c.in_ok-property-in-Some.ensures ∙ ap (λ (o : Option Member). Ok o) c.in-Some-2.is in
@@ -27,7 +27,7 @@ returns-in-Some-2-clause-placed c =
     let ss = c.args.slots.list in
     let m = c.in-Some.property in
     let change = at_place c.args.path.now.steps (change_of c.args.action.now) (makes c.args.action.now) in
-    let here = slot_had (slice_get ss c.args.at) m (sym c.in-Some.is ∙ c.emptied.ensures.property) in
+    let here = slot_had (slice_get ss c.args.at) m (sym c.in-Some.is ∙ c.emptied.ensures.member) in
     let gave : ok_map (option_map (member (name_of m))) (change (Some (value_of m))) ≡ Ok (Some c.in-Some-2.property) =
     ap (λ (steps : List Step). ok_map (option_map (member (name_of m))) (at_place steps (change_of c.args.action.now) (makes c.args.action.now) (Some (value_of m)))) (sym c.steps.ensures.steps)
     ∙ c.in_ok-property-in-Some.ensures ∙ ap (λ (o : Option Member). Ok o) c.in-Some-2.is in
@@ -39,7 +39,7 @@ pub returns-clause-placed : goal.returns-clause-placed
 returns-clause-placed c =
     let ss = c.args.slots.list in
     let m = c.in-Some.property in
-    let here = slot_had (slice_get ss c.args.at) m (sym c.in-Some.is ∙ c.emptied.ensures.property) in
+    let here = slot_had (slice_get ss c.args.at) m (sym c.in-Some.is ∙ c.emptied.ensures.member) in
     subst (HasPlaces c.remove.new.self) (sym (emptied_is ss c.emptied.new.list c.args.at m here c.emptied.ensures.rest))
     (placed_out ss c.args.slots.places c.requires.placed c.args.key.now c.args.at m c.remove.new.self c.requires.here here
     (slot_named (name_at c.args.key.now) ss c.args.at m c.requires.here here) c.requires.apart c.remove.ensures.updates)
