@@ -18,7 +18,7 @@ use Rattle.tiff_dirs.specs.Tables.{Reads, tables_in, tables_at}
 use Rattle.tiff_dirs.specs.Walking.{Body, capped}
 use Rattle.tiff_dirs.proofs.Piece.{number_part, entries_part}
 use Rattle.tiff_dirs.proofs.Reading.{body_clear, children_are}
-use Rattle.tiff_dirs.proofs.Loads.{reads_inside, reads_wider}
+use Rattle.tiff_dirs.proofs.Loads.{reads_inside, reads_trans, reads_wider}
 
 head_in : (x : FileSpan) (rest : List FileSpan) → Contains (x ∷ rest) x
 head_in x rest = (0, omega arith, refl)
@@ -74,3 +74,16 @@ pub count_among : (s t : DeskState) (name : List ℕ) (l : Layout) (at : ℕ) �
 count_among s t name l at a =
     reads_wider name s t (λ file. span at (end_at l file at) ∷ []) (λ file. tables_at l file at) a
     (λ files told r h. let file = bytes_of files name in Contains-append_left (span at (end_at l file at) ∷ []) (tables_in (entries_at l file at)) r h)
+
+-- the bytes, and then values that the entries name
+module _ (s t u v : DeskState) (name : List ℕ) (l : Layout) (at n : ℕ) (items : List Entry) (a : ReadInside s t name (at + l.count) (at + l.count + (l.entry * n + l.word)))
+    (count : Told s.files (λ files. n ≡ count_at l (bytes_of files name) at)) (is : Told s.files (λ files. items ≡ entries_at l (bytes_of files name) at)) (b : Reads t u name (λ _. tables_in items)) where
+  pub body_values : Reads s u name (λ file. tables_at l file at)
+  body_values =
+      reads_trans name s t u (λ file. tables_at l file at) (body_read s t name l at n a count)
+      (values_read t u name l at items b (λ files told. is files (sym a.same.files ∙ told)))
+
+  pub body_more : Reads u v name (λ _. tables_in items) → Reads s v name (λ file. tables_at l file at)
+  body_more c =
+      reads_trans name s u v (λ file. tables_at l file at) body_values
+      (values_read u v name l at items c (λ files told. is files (sym a.same.files ∙ (sym b.same.files ∙ told))))

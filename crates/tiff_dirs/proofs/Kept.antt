@@ -1,7 +1,7 @@
 -- Pieces of a file that are kept, and what is read from them.
 use Rattle.std.proofs.Common.{◌≡◌, ◌≢◌, ℕ, zero, suc, ◌+◌, ◌-◌, ◌*◌, ◌<◌, ◌≤◌, ◌⊎◌, inl, inr, ◌==◌, ◌||◌, Bool, true, false, if◌then◌else◌, List, [], ◌∷◌, ◌++◌, length, take, drop, map, get_or, refl, sym, ap, subst, ◌∙◌, arith, Some, None}
 use Rattle.std.specs.declared.option.Option.{Option}
-use Rattle.std.specs.List.{All, insert, slice_get, items_where_true}
+use Rattle.std.specs.List.{All, slice_get}
 use Rattle.std.specs.Option.{option_map, option_or}
 use Rattle.std.proofs.Math.Nat.{mul-suc}
 use Rattle.std.proofs.Math.Seq.{take-add}
@@ -53,9 +53,6 @@ parts_join file one two start next known a b begins seam h =
     ∙ ap (λ (t : List ℕ). take (length one) (drop start file) ++ t) (rest ∙ ap (take m) (sym (drop-drop (length one) start file)))
     ∙ sym (take-add (length one) m (drop start file))
     ∙ ap (λ (k : ℕ). take k (drop start file)) (sym size)
-
-pub All-insert : (P : Piece → Type 0) (ps : List Piece) (k : ℕ) (p : Piece) → All P ps → P p → All P (insert ps k p)
-All-insert P ps k p a b = All-append P (take k ps) (p ∷ drop k ps) (All-take P k ps a) (All-cons P p (drop k ps) b (All-drop P k ps a))
 
 pub All-at : {X : Type 0} (P : X → Type 0) (xs : List X) (k : ℕ) (x : X) → All P xs → slice_get xs k ≡ Some x → P x
 All-at P xs k x a e = subst P (get_or_from_slice_get xs k x x e) (a k x (slice_get_within xs k x e))
@@ -133,12 +130,6 @@ pub entries_count : (l : Layout) (start : ℕ) (part : List ℕ) (at n : ℕ) �
 entries_count l start part at zero = refl
 entries_count l start part at (suc n) = ap suc (entries_count l start part (at + l.entry) n)
 
-pub All-where : {X : Type 0} (P : X → Type 0) (bs : List Bool) (xs : List X) → All P xs → All P (items_where_true bs xs)
-All-where P [] xs a = All-nil P
-All-where P (b ∷ bs) [] a = All-nil P
-All-where P (true ∷ bs) (x ∷ xs) a = All-cons P x (items_where_true bs xs) (All-head P x xs a) (All-where P bs xs (All-tail P x xs a))
-All-where P (false ∷ bs) (x ∷ xs) a = All-where P bs xs (All-tail P x xs a)
-
 pub entry_shown : (l : Layout) (len start : ℕ) (part : List ℕ) (at n i : ℕ) → i < n
     → slice_get (map (shown l len) (entries_in_part l start part at n)) i ≡ Some (shown l len (entry_in l start part (at + l.entry * i)))
 entry_shown l len start part at n i h =
@@ -155,15 +146,6 @@ module _ (l : Layout) (len : ℕ) (ps : List Piece) (found : List Directory) (k 
   dir_count =
       ap length dir_there ∙ length-map (entries_in_part l p.start p.bytes.items (d.place.at + l.count - p.start) d.place.count) (shown l len)
       ∙ entries_count l p.start p.bytes.items (d.place.at + l.count - p.start) d.place.count
-
--- what is missing of bytes that were read
-pub kept_slice : (file part bytes : List ℕ) (start from to : ℕ) → IsPart part start file → start ≤ from → from ≤ to → to ≤ start + length part
-    → bytes ≡ take (to - start - (from - start)) (drop (from - start) part) → IsPart bytes from file
-kept_slice file part bytes start from to is a b c e =
-    let at : start + (from - start) ≡ from = omega arith in
-    subst (λ (t : List ℕ). IsPart t from file) (sym e)
-    (subst (λ (k : ℕ). IsPart (take (to - start - (from - start)) (drop (from - start) part)) k file) at
-    (slice_part file part start is (from - start) (to - start - (from - start)) (omega arith)))
 
 pub mul_within : (e i n : ℕ) → i < n → e * i + e ≤ e * n
 mul_within e i zero h = absurd (omega arith)

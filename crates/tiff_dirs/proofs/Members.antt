@@ -1,7 +1,7 @@
 -- The values of offsets and lengths among those of a directory, and how many of the offsets matter.
-use Rattle.std.proofs.Common.{◌≡◌, ◌==◌, ℕ, zero, suc, ◌+◌, ◌-◌, ◌<◌, ◌≤◌, ◌⊎◌, inl, inr, min, Bool, true, false, if◌then◌else◌, List, [], ◌∷◌, ◌++◌, length, get_or, take, refl, sym, ap, subst, ◌∙◌, arith, Some, Contains}
+use Rattle.std.proofs.Common.{◌≡◌, ◌==◌, ℕ, zero, suc, ◌+◌, ◌-◌, ◌<◌, ◌≤◌, ◌⊎◌, inl, inr, min, Bool, true, false, if◌then◌else◌, List, [], ◌∷◌, ◌++◌, length, take, refl, sym, ap, subst, ◌∙◌, arith, Some, Contains}
 use Rattle.std.specs.declared.option.Option.{Option}
-use Rattle.std.specs.List.{find}
+use Rattle.std.specs.List.{find, slice_get}
 use Rattle.std.proofs.lemmas.Bool.Decides.{nat_tests}
 use Rattle.std.proofs.Math.Seq.{take-append-add}
 use Rattle.std.proofs.lemmas.List.Elements.{Contains-append_left, Contains-append_right, Contains-append_cases}
@@ -47,14 +47,15 @@ found_tag tag [] e i = (cc)
 found_tag tag (x ∷ xs) e i = tag_by tag (x.tag == tag) x e (find (λ y. y.tag == tag) xs) refl (λ j. found_tag tag xs e j) i
 
 -- those of one entry are among those of all
-pub table_among : (es : List Entry) (i : ℕ) (d : Entry) (r : FileSpan) → i < length es → Contains (tables_in (get_or es i d ∷ [])) r → Contains (tables_in es) r
-table_among [] i d r h m = absurd (omega arith)
-table_among (x ∷ xs) zero d r h m =
-    elim (Contains-append_cases (table_of x) [] r m) [
-      | inl k ↦ Contains-append_left (table_of x) (tables_in xs) r k
+pub table_among : (es : List Entry) (i : ℕ) (e : Entry) (r : FileSpan) → slice_get es i ≡ Some e → Contains (tables_in (e ∷ [])) r → Contains (tables_in es) r
+table_among [] i e r at m = (cc)
+table_among (x ∷ xs) zero e r at m =
+    let same : x ≡ e = (cc at) in
+    elim (Contains-append_cases (table_of e) [] r m) [
+      | inl k ↦ subst (λ (y : Entry). Contains (tables_in (y ∷ xs)) r) (sym same) (Contains-append_left (table_of e) (tables_in xs) r k)
       | inr k ↦ (let j = k.1 in absurd (omega arith))
     ]
-table_among (x ∷ xs) (suc i) d r h m = Contains-append_right (table_of x) (tables_in xs) r (table_among xs i d r (omega arith) m)
+table_among (x ∷ xs) (suc i) e r at m = Contains-append_right (table_of x) (tables_in xs) r (table_among xs i e r at m)
 
 numbers_take : (big : Bool) (w at r n : ℕ) (file : List ℕ) → r ≤ n → take r (numbers big w at n file) ≡ numbers big w at r file
 numbers_take big w at zero n file h = refl

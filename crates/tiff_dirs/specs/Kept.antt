@@ -1,5 +1,5 @@
 -- The bytes of directories that are kept, and what is read from them.
-use Rattle.std.specs.Prelude.{◌≡◌, ℕ, ◌+◌, ◌-◌, ◌*◌, ◌≤◌, if◌then◌else◌, List, [], All, length, map, slice_get, Some, None}
+use Rattle.std.specs.Prelude.{◌≡◌, ℕ, ◌+◌, ◌-◌, ◌*◌, ◌≤◌, if◌then◌else◌, List, [], All, Contains, length, map, slice_get, Some, None}
 use Rattle.std.specs.declared.option.Option.{Option}
 use Rattle.tiff_dirs.specs.declared.layout.Layout.{Layout}
 use Rattle.tiff_dirs.specs.declared.entry.Entry.{Entry}
@@ -18,6 +18,14 @@ Holds file p = IsPart p.bytes.items p.start file
 -- pieces that have a file's bytes still do after more was kept
 abbrev pub Keeps : List ℕ → List Piece → List Piece → Type 0
 Keeps file old new = All (Holds file) old → All (Holds file) new
+
+-- the bytes from a place up to another lie in a piece
+abbrev pub Covers : Piece → ℕ → ℕ → Type 0
+Covers p from to = (p.start ≤ from) × (to ≤ p.start + length p.bytes.items)
+
+-- in one of the pieces
+abbrev pub InPiece : List Piece → ℕ → ℕ → Type 0
+InPiece pieces from to = (p : Piece) × Contains pieces p × Covers p from to
 
 -- so many bytes from a place on lie in a piece, which ends in a file of a length
 pub record Has (len start size : ℕ) (p : Piece) : Type 0 where

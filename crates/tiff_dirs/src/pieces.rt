@@ -1,7 +1,7 @@
 //! The bytes of tables that were read, each kept once.
-ghost use Rattle.std.specs.Prelude.{◌≡◌, ℕ, ◌+◌, ◌-◌, ◌≤◌, ◌<◌, ◌^◌, List, All, length, slice_get, IfOk, IfSome, IsTrue, Some};
+ghost use Rattle.std.specs.Prelude.{◌≡◌, ℕ, ◌+◌, ◌≤◌, ◌++◌, ◌⊎◌, List, All, length, slice_get, IfOk, IfSome, IsTrue, Some};
 ghost use Rattle.tiff_dirs.specs.Parts.{IsPart};
-ghost use Rattle.tiff_dirs.specs.Kept.{Has, Holds};
+ghost use Rattle.tiff_dirs.specs.Kept.{Covers, Has, Holds, InPiece};
 
 use std::alloc::Global;
 use xmp_values::Memory;
@@ -13,27 +13,41 @@ pub struct Piece {
     pub bytes: Vec<u8>,
 }
 
+/// Appends bytes. Where room is wanted, an eighth more is taken: so bytes are seldom moved, and
+/// little stands empty.
+fn extend(bytes: &mut Vec<u8>, more: &[u8]) -> Result<(), Memory>
+    ensures { IfOk result (λ _. bytes.new.items ≡ bytes.old.items ++ more.now) }
+{
+    let len = bytes.len();
+    if bytes.capacity().saturating_sub(len) < more.len() {
+        bytes.reserve_exact(more.len().max(len / 8))?;
+    }
+    bytes.extend_from_slice(more)?;
+    Ok(())
+}
+
 impl Piece {
-    /// How many bytes there are from a place on.
-    fn count_from(&self, at: u64) -> u64 {
-        let len = self.bytes.len() as u64;
-        if self.start <= at && at - self.start <= len {
-            len - (at - self.start)
-        } else {
-            0
-        }
-    }
-
-    /// Whether the bytes before a place are the last ones.
-    fn reaches(&self, end: u64) -> bool
-        ensures { IsTrue result → self.now.start < end }
+    /// Whether a byte at a place is one of the bytes, or would be the next.
+    fn touches(&self, at: u64) -> bool
+        ensures { IsTrue result → (self.now.start ≤ at) × (at ≤ self.now.start + length self.now.bytes.items) }
     {
-        self.start < end && end - self.start <= self.bytes.len() as u64
+        self.start <= at && at - self.start <= self.bytes.len() as u64
     }
 
-    /// Whether all bytes lie in a range.
-    fn is_inside(&self, from: u64, to: u64) -> bool {
-        from <= self.start && self.start <= to && self.bytes.len() as u64 <= to - self.start
+    /// Appends bytes of the file from a place on, but for those that are there.
+    fn append(&mut self, start: u64, bytes: &[u8]) -> Result<(), Memory>
+        requires begins { self.old.start ≤ start }
+        requires touches { start ≤ self.old.start + length self.old.bytes.items }
+        ensures holds { IfOk result (λ _. (file : List ℕ) → Holds file self.old → IsPart bytes.now start file → Holds file self.new) }
+        ensures start { IfOk result (λ _. self.new.start ≡ self.old.start) }
+        ensures longer { IfOk result (λ _. length self.old.bytes.items ≤ length self.new.bytes.items) }
+        ensures all { IfOk result (λ _. start + length bytes.now ≤ self.new.start + length self.new.bytes.items) }
+    {
+        let known = self.bytes.len() - (start - self.start) as usize;
+        if known < bytes.len() {
+            extend(&mut self.bytes, &bytes[known..])?;
+        }
+        Ok(())
     }
 
     /// Whether so many bytes from a place on are there, and the last byte lies in a file of a length.
@@ -49,130 +63,53 @@ impl Piece {
     }
 }
 
-/// The first place of a range at which no piece begins to have its bytes.
-fn first_missing(pieces: &[Piece], start: u64, end: u64) -> u64
-    requires { start ≤ end }
-    ensures least { start ≤ result }
-    ensures most { result ≤ end }
-{
-    let mut from = start;
-    for piece in pieces {
-        from += piece.count_from(from).min(end - from);
-    }
-    from
-}
-
-/// The place of a range from which on a piece has its last bytes.
-fn last_missing(pieces: &[Piece], start: u64, end: u64) -> u64
-    requires { start ≤ end }
-    ensures least { start ≤ result }
-    ensures most { result ≤ end }
-{
-    let mut to = end;
-    for piece in pieces {
-        if piece.reaches(to) {
-            to = piece.start.max(start);
-        }
-    }
-    to
-}
-
-/// Drops the pieces that lie in a range.
-fn drop_inside(pieces: &mut Vec<Piece>, from: u64, to: u64)
-    ensures { (file : List ℕ) → All (Holds file) pieces.old.items → All (Holds file) pieces.new.items }
-{
-    pieces.retain(|piece| !piece.is_inside(from, to));
-}
-
-/// How many pieces at the front begin before a place.
-fn count_before(pieces: &[Piece], at: u64) -> usize
-    ensures { result ≤ length pieces.now }
+/// The first piece to which a byte at a place may be appended, taken out, or else an empty one.
+fn piece_at(alloc: Global, pieces: &mut Vec<Piece>, at: u64) -> Piece
+    ensures begins { result.start ≤ at }
+    ensures touches { at ≤ result.start + length result.bytes.items }
+    ensures holds { (file : List ℕ) → All (Holds file) pieces.old.items → Holds file result × All (Holds file) pieces.new.items }
+    ensures inside { (from to : ℕ) → InPiece pieces.old.items from to → InPiece pieces.new.items from to ⊎ Covers result from to }
 {
     for k in 0..pieces.len() {
-        if pieces[k].start >= at {
-            return k;
+        if pieces[k].touches(at) {
+            return pieces.remove(k);
         }
     }
-    pieces.len()
-}
-
-/// A copy of bytes.
-fn copied(alloc: Global, bytes: &[u8]) -> Result<Vec<u8>, Memory>
-    ensures { IfOk result (λ copy. copy.items ≡ bytes.now) }
-{
-    Ok(bytes.to_vec(alloc)?)
-}
-
-/// Keeps bytes of a file, but for those at their front and end that are kept already. Pieces that
-/// lie in what is left go, so that no byte is kept twice. They stand in their order in the file.
-pub fn keep(alloc: Global, pieces: &mut Vec<Piece>, start: u64, bytes: &[u8]) -> Result<(), Memory>
-    requires { start + length bytes.now < 2 ^ 64 }
-    ensures { IfOk result (λ _. (file : List ℕ) → IsPart bytes.now start file → All (Holds file) pieces.old.items → All (Holds file) pieces.new.items) }
-{
-    let end = start + bytes.len() as u64;
-    let from = first_missing(pieces.as_slice(), start, end);
-    let to = last_missing(pieces.as_slice(), from, end);
-    if from == to {
-        return Ok(());
-    }
-    let missing = &bytes[(from - start) as usize..(to - start) as usize];
-    let piece = Piece {
-        start: from,
-        bytes: copied(alloc, missing)?,
-    };
-    drop_inside(pieces, from, to);
-    let k = count_before(pieces.as_slice(), from);
-    match pieces.insert(k, piece) {
-        Ok(()) => Ok(()),
-        Err(_) => Err(Memory),
+    Piece {
+        start: at,
+        bytes: Vec::new(alloc),
     }
 }
 
-/// Whether the bytes of a piece begin in another or right after it.
-fn touches(piece: &Piece, next: &Piece) -> bool
-    ensures { IsTrue result → (piece.now.start ≤ next.now.start) × (next.now.start ≤ piece.now.start + length piece.now.bytes.items) }
+/// Appends to a piece those that begin in it or right after it.
+fn absorb(pieces: &mut Vec<Piece>, run: &mut Piece) -> Result<(), Memory>
+    ensures holds { IfOk result (λ _. (file : List ℕ) → Holds file run.old → All (Holds file) pieces.old.items → Holds file run.new × All (Holds file) pieces.new.items) }
+    ensures run { IfOk result (λ _. (from to : ℕ) → Covers run.old from to → Covers run.new from to) }
+    ensures inside { IfOk result (λ _. (from to : ℕ) → InPiece pieces.old.items from to → InPiece pieces.new.items from to ⊎ Covers run.new from to) }
 {
-    piece.start <= next.start && next.start - piece.start <= piece.bytes.len() as u64
-}
-
-/// Appends the bytes of a piece that another has no more, which begins before it and isn't apart.
-fn append(piece: &mut Piece, next: &Piece) -> Result<(), Memory>
-    requires begins { piece.old.start ≤ next.now.start }
-    requires touches { next.now.start ≤ piece.old.start + length piece.old.bytes.items }
-    ensures { IfOk result (λ _. (file : List ℕ) → Holds file piece.old → Holds file next.now → Holds file piece.new) }
-{
-    let known = piece.bytes.len() - (next.start - piece.start) as usize;
-    if known < next.bytes.len() {
-        piece.bytes.extend_from_slice(&next.bytes[known..])?;
+    let mut k = 0;
+    while k < pieces.len() {
+        if run.touches(pieces[k].start) {
+            let piece = pieces.remove(k);
+            run.append(piece.start, piece.bytes.as_slice())?;
+        } else {
+            k += 1;
+        }
     }
     Ok(())
 }
 
-/// The pieces, with those put together that touch the one before them.
-pub fn joined(alloc: Global, pieces: &[Piece]) -> Result<Vec<Piece>, Memory>
-    ensures { IfOk result (λ joined. (file : List ℕ) → All (Holds file) pieces.now → All (Holds file) joined.items) }
+/// Keeps bytes of a file, each once: they and the pieces that they meet or touch become one piece.
+pub fn keep(alloc: Global, pieces: &mut Vec<Piece>, start: u64, bytes: &[u8]) -> Result<(), Memory>
+    ensures holds { IfOk result (λ _. (file : List ℕ) → IsPart bytes.now start file → All (Holds file) pieces.old.items → All (Holds file) pieces.new.items) }
+    ensures kept { IfOk result (λ _. InPiece pieces.new.items start (start + length bytes.now)) }
+    ensures old { IfOk result (λ _. (from to : ℕ) → InPiece pieces.old.items from to → InPiece pieces.new.items from to) }
 {
-    let mut done = Vec::new(alloc);
-    let mut last = Piece {
-        start: 0,
-        bytes: Vec::new(alloc),
-    };
-    for piece in pieces {
-        if touches(&last, piece) {
-            append(&mut last, piece)?;
-        } else {
-            let next = Piece {
-                start: piece.start,
-                bytes: copied(alloc, piece.bytes.as_slice())?,
-            };
-            let Ok(()) = done.push(last) else {
-                return Err(Memory);
-            };
-            last = next;
-        }
-    }
-    match done.push(last) {
-        Ok(()) => Ok(done),
+    let mut run = piece_at(alloc, pieces, start);
+    run.append(start, bytes)?;
+    absorb(pieces, &mut run)?;
+    match pieces.push(run) {
+        Ok(()) => Ok(()),
         Err(_) => Err(Memory),
     }
 }

@@ -144,6 +144,32 @@ pub fn branches(alloc: Global, form: (bool, bool)) -> Result<Vec<u8>, AllocError
     body.file(alloc)
 }
 
+/// A directory of three strips, of which the second is empty, and of JPEG interchange.
+fn three_pictures(alloc: Global, form: (bool, bool)) -> Result<Vec<u8>, AllocError>
+    ensures { IfOk result (λ file. BeginsTiff file.items) }
+{
+    let (wide, _) = form;
+    let (first, tables, table, long) = if wide {
+        (16, 112, 24, 16)
+    } else {
+        (8, 62, 12, 4)
+    };
+    let data = tables + 2 * table;
+    let mut body = Body::new(alloc, form, first)?;
+    body.count(4)?;
+    body.entry(273, long, 3, tables)?;
+    body.entry(279, long, 3, tables + table)?;
+    body.entry(513, long, 1, data + 6)?;
+    body.entry(514, long, 1, 3)?;
+    body.word(0)?;
+    for number in [data, data + 4, data + 4, 4, 0, 2] {
+        body.word(number)?;
+    }
+    body.put(0, 8)?;
+    body.put(0, 1)?;
+    body.file(alloc)
+}
+
 /// Walks the first bytes of a file.
 fn walk_front(alloc: Global, file: &[u8], len: usize) -> Result<Walked, Memory>
     requires begins { BeginsTiff file.now }
@@ -446,6 +472,26 @@ fn reached_in_order(rt: HostRuntime) -> Result<(), Fail> {
             end: strip + 4,
         };
         assert_eq!(rt; dirs.picture(0), range);
+    }
+    Ok(())
+}
+
+#[test]
+fn pictures_past_an_empty_one(rt: HostRuntime) -> Result<(), Fail> {
+    for form in FORMS {
+        let (wide, _) = form;
+        let places = if wide {
+            [(160, 164), (164, 166), (166, 169)]
+        } else {
+            [(86, 90), (90, 92), (92, 95)]
+        };
+        let file = three_pictures(rt.alloc(), form)?;
+        let dirs = Dirs::walk(rt.alloc(), file.as_slice())?;
+        assert_eq!(rt; dirs.pictures(), 3);
+        for i in 0..3 {
+            let (start, end) = places[i];
+            assert_eq!(rt; dirs.picture(i), FileSpan { start, end });
+        }
     }
     Ok(())
 }

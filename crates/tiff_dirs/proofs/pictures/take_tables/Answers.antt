@@ -42,12 +42,11 @@ returns-in-Ok-keep_pair-clause-answer g c = λ files told.
     let ns : numbers l.big (size_of l n.code) 0 o.count c.as_slice-2.result.now ≡ numbers l.big (size_of l n.code) n.value.start o.count file =
     ap (λ (t : List ℕ). numbers l.big (size_of l n.code) 0 o.count t) c.as_slice-2.ensures ∙ c.in-Ok-load_items.ensures.call.items files (c.load_items.ensures.call.calls.same.files ∙ told) in
     let p = pair_with o c.table_of.result c.table_of-2.result in
-    let is = pair_by l o n c.table_of.result c.table_of-2.result c.table_of.ensures.is c.table_of-2.ensures.is in
-    (
+    let is = pair_by l o n c.table_of.result c.table_of-2.result c.table_of.ensures.is c.table_of-2.ensures.is in (
       spans_more l.big file c.args.pairs.now.items p c.keep_pair.new.pairs.items c.in-Ok-keep_pair.ensures.pairs
-      ∙ ap (λ (ps : List Picture). spans_in l.big file c.args.pairs.now.items ++ spans_of ps) (tables_name l file o n p is c.requires.paired),
+          ∙ ap (λ (ps : List Picture). spans_in l.big file c.args.pairs.now.items ++ spans_of ps) (tables_name l file o n p is c.requires.paired),
       subst (λ (ps : List Picture). pictures_fault c.args.part.now.len ps ≡ None) (tables_list l file o n p is c.requires.paired c.as_slice.result.now c.as_slice-2.result.now os ns)
-      c.in-Ok-keep_pair.ensures.clear,
+          c.in-Ok-keep_pair.ensures.clear,
     )
 
 pub returns-clause-answer : goal.returns-clause-answer
