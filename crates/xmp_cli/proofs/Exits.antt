@@ -1,5 +1,5 @@
 -- The exits of a command that shows a view of a file, from what its calls returned.
-use Rattle.std.proofs.Common.{◌≡◌, ◌⊎◌, ℕ, List, refl, sym, ap, Ok, Err, Some, inl, inr, subst, IsOk}
+use Rattle.std.proofs.Common.{◌≡◌, ◌⊎◌, ℕ, true, false, List, refl, sym, ap, Ok, Err, Some, inl, inr, subst, IsOk}
 use Rattle.std.specs.declared.option.Option.{Option}
 use Rattle.std.specs.declared.result.Result.{Result}
 use Rattle.std.specs.FinMap.{get}
@@ -72,8 +72,12 @@ fault_there size place rule (bad_length h) = λ e. cc e
 fault_there size place rule (truncated h) = λ e. cc e
 fault_there size place rule (two_packets h) = λ e. cc e
 
+never_missing : (size : ℕ) (fault : Fault) → IsLoadRefusal size NoFile fault → ⊥
+never_missing size fault (inl cut) = fault_there size fault.place.at NoFile cut.0 refl
+never_missing size fault (inr walk) = let no : false ≡ true = walk.0 in cc
+
 pub not_missing : (size : ℕ) (rule : Rule) (fault : Fault) → IsLoadRefusal size rule fault → rule ≡ NoFile → ⊥
-not_missing size rule fault h e = let none : IsLoadRefusal size NoFile fault = subst (λ (r : Rule). IsLoadRefusal size r fault) e h in fault_there size fault.place.at NoFile none.0 refl
+not_missing size rule fault h e = never_missing size fault (subst (λ (r : Rule). IsLoadRefusal size r fault) e h)
 
 -- what was kept has a kind
 pub ok_kind : (by : Result Kind Fault) (bytes : List ℕ) (kept : Kept) → Followed by (IsKept Packet bytes) (Ok kept) → IsOk by

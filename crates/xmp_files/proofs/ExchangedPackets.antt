@@ -25,7 +25,9 @@ use Rattle.xmp_files.specs.Meanings.{IsNote, IsNoteOf}
 use Rattle.xmp_files.specs.Photographs.{piece_at, main_payload, packet_range, main_packet, IsPhotograph}
 use Rattle.xmp_files.specs.Loading.{known, kind_of_file, IsKept, IsLoaded}
 use Rattle.xmp_files.proofs.LoadedPhotographs.{main_of, main_lies, unnamed}
-use Rattle.xmp_files.proofs.LoadedKept.{IsSidecarOf, IsPhotographOf, LoadedAs, loaded_as}
+use Rattle.xmp_files.proofs.LoadedKept.{IsSidecarOf, IsPhotographOf, IsImageOf, LoadedAs, loaded_as}
+use Rattle.xmp_files.proofs.Loads.{known_as}
+use Rattle.xmp_files.proofs.ExchangedImages.{image_within, image_there}
 
 -- a whole file as the payload that a sidecar is
 abbrev pub whole_piece : List ℕ → Piece
@@ -135,7 +137,7 @@ module _ (need : Need) (old : List ℕ) (kept : Kept) (p : IsPhotograph need old
     there_is : length old ≤ file_limit → kind_of_file (Some file) ≡ Ok Jpeg
     there_is small =
         ap (λ (b : Bool). followed (cond b (Err (over_limit (length file))) (Ok file)) known) (le-ltb file_limit (length file) (omega (arith, file_size, small)))
-        ∙ ap (λ (k : Option Kind). ok_or k not_known) kind_is
+        ∙ known_as file Jpeg kind_is refl
 
     -- the file is loaded with the new packet
     pub exchanged_loaded : length old ≤ file_limit → length now ≤ packet_limit → IsNoteOf now None → IsLoaded Packet (Some file) (Ok exchanged_kept)
@@ -144,7 +146,7 @@ module _ (need : Need) (old : List ℕ) (kept : Kept) (p : IsPhotograph need old
         ap (λ (b : Bool). cond b (Err (over_packet (length now))) (Ok exchanged_kept)) (sym (le-ltb packet_limit (length now) short)) in
         subst (λ (x : Result Kind Fault). Followed x (IsKept Packet file) (Ok exchanged_kept)) (sym (there_is small)) (Ok exchanged_kept, is_photograph (inr (short, note)), within)
 
--- Of both kinds.
+-- Of all kinds.
 
 sidecar_stands : (need : Need) (old : List ℕ) (kept : Kept) (payload : Piece) → kept.payload ≡ Some payload → IsSidecarOf need old kept → Stands old payload
 sidecar_stands need old kept payload there s =
@@ -158,9 +160,17 @@ photograph_stands need old kept payload there p = record {
   short = p.short payload there;
 }
 
+image_stands : (need : Need) (old : List ℕ) (kept : Kept) (payload : Piece) → kept.payload ≡ Some payload → IsImageOf need old kept → Stands old payload
+image_stands need old kept payload there x = record {
+  within = image_within need old kept x.is payload there;
+  there = image_there need old kept x.is payload there;
+  short = x.short payload there;
+}
+
 stands_by : (need : Need) (old : List ℕ) (kept : Kept) (payload : Piece) → kept.payload ≡ Some payload → LoadedAs need old kept → Stands old payload
 stands_by need old kept payload there (inl s) = sidecar_stands need old kept payload there s
-stands_by need old kept payload there (inr p) = photograph_stands need old kept payload there p
+stands_by need old kept payload there (inr (inl p)) = photograph_stands need old kept payload there p
+stands_by need old kept payload there (inr (inr x)) = image_stands need old kept payload there x
 
 -- the payload of a loaded file
 pub loaded_stands : (need : Need) (old : List ℕ) (kept : Kept) (payload : Piece) → IsLoaded need (Some old) (Ok kept) → kept.payload ≡ Some payload → Stands old payload

@@ -2,6 +2,7 @@ pub mod Loads
 pub mod OneMeaning
 pub mod OnePhotograph
 pub mod LoadedPhotographs
+pub mod WalkedImages
 pub mod LoadedExtended
 pub mod OneStep
 pub mod Opens
@@ -24,6 +25,8 @@ pub mod DividedTexts
 pub mod BothTexts
 pub mod PushedPortions
 pub mod RelocatedPhotographs
+pub mod ExchangedImages
+pub mod ClosedImages
 pub mod ExchangedPackets
 pub mod OpenPackets
 pub mod WrittenPhotographs

@@ -41,7 +41,7 @@ use Rattle.xmp_files.specs.Loading.{known, kind_of_file, limited_by, IsContained
 use Rattle.xmp_files.specs.Sparing.{IsUnread, Spares, HasContainer, Spared}
 use Rattle.xmp_files.specs.Loads.{SizedCall, KeptCall, IsLoadRefusal, PayloadLies, IsOfSize, read_before, cut_stop}
 use Rattle.xmp_files.proofs.PickedPortions.{none_picked}
-use Rattle.xmp_files.proofs.Loads.{Sized, sized_refusal, known_as, by_known, spared_trans}
+use Rattle.xmp_files.proofs.Loads.{Sized, sized_refusal, sized_fails, sized_wants, sized_kept, known_inside, known_kind, known_as, by_known, spared_trans}
 
 -- Kinds.
 
@@ -66,12 +66,12 @@ two_bytes (x ∷ y ∷ file) h =
 pub begins_jpeg : (file : List ℕ) → kind_of file ≡ Some Jpeg → BeginsJpeg file
 begins_jpeg file h = two_bytes file (jpeg_by _ _ _ _ _ _ h)
 
-known_by : (over : Bool) (n : ℕ) (bytes : List ℕ) (kind : Kind) → followed (let r : Result (List ℕ) Fault = if over then Err (over_limit n) else Ok bytes in r) known ≡ Ok kind → known bytes ≡ Ok kind
+pub known_by : (over : Bool) (n : ℕ) (bytes : List ℕ) (kind : Kind) → followed (let r : Result (List ℕ) Fault = if over then Err (over_limit n) else Ok bytes in r) known ≡ Ok kind → known bytes ≡ Ok kind
 known_by true n bytes kind h = absurd (cc h)
 known_by false n bytes kind h = h
 
 kind_known : (bytes : List ℕ) (kind other : Kind) → known bytes ≡ Ok kind → kind_of bytes ≡ Some other → kind ≡ other
-kind_known bytes kind other h is = let e : Ok kind ≡ Ok other = sym h ∙ ap (λ (k : Option Kind). ok_or k not_known) is in cc e
+kind_known bytes kind other h is = let e : Some kind ≡ Some other = sym (known_kind bytes kind h) ∙ is in cc e
 
 -- the kind that a file of a known kind has
 kind_told : (file : Option (List ℕ)) (kind other : Kind) → kind_of_file file ≡ Ok kind → kind_of (unwrap_or file []) ≡ Some other → kind ≡ other
@@ -158,7 +158,7 @@ module _ (need : Need) (t u : DeskState) (name : List ℕ) (regions : List Regio
 
 -- The exits.
 
-limited_ok : (size : ℕ) (kept : Kept) (payload : Option Piece) → PayloadLies size payload → Ok kept ≡ limited_by kept payload
+pub limited_ok : (size : ℕ) (kept : Kept) (payload : Option Piece) → PayloadLies size payload → Ok kept ≡ limited_by kept payload
 limited_ok size kept None lies = refl
 limited_ok size kept (Some piece) lies = sym (cond-false _ _ _ (le-ltb packet_limit (length piece.bytes) lies.1))
 
@@ -166,68 +166,40 @@ err_stop : {A : Type 0} (a b : FileStop) → (let r : Result A FileStop = Err a 
 err_stop a b e = cc e
 
 fault_refused : (size place : ℕ) (rule : Rule) → FaultIn size place rule → IsLoadRefusal size rule (fault_at rule File place) × (rule ≢ FileLimit) × (read_before rule size ≡ size)
-fault_refused size place rule (no_tail e) = ((no_tail e, refl), λ x. cc x, refl)
-fault_refused size place rule (bad_marker e) = ((bad_marker e, refl), λ x. cc x, refl)
-fault_refused size place rule (bad_length e) = ((bad_length e, refl), λ x. cc x, refl)
-fault_refused size place rule (truncated e) = ((truncated e, refl), λ x. cc x, refl)
-fault_refused size place rule (two_packets e) = ((two_packets e, refl), λ x. cc x, refl)
+fault_refused size place rule (no_tail e) = (inl (no_tail e, refl), λ x. cc x, refl)
+fault_refused size place rule (bad_marker e) = (inl (bad_marker e, refl), λ x. cc x, refl)
+fault_refused size place rule (bad_length e) = (inl (bad_length e, refl), λ x. cc x, refl)
+fault_refused size place rule (truncated e) = (inl (truncated e, refl), λ x. cc x, refl)
+fault_refused size place rule (two_packets e) = (inl (two_packets e, refl), λ x. cc x, refl)
 
 module _ (need : Need) (s t : DeskState) (name : List ℕ) (size : ℕ) (sized : Sized s name size) (kind : Told s.files (λ files. kind_of (bytes_of files name) ≡ Some Jpeg))
     (calls : ReadInside s t name 0 size) (spared : Spared need s t name) where
   -- the desk failed
   pub photograph_fails : Rose s.faults t.faults → SizedCall need s t name size (Err Device)
-  photograph_fails rose = record {
-    calls = calls;
-    told = λ files told. tt;
-    memory = λ files told e. absurd (cc e);
-    there = λ e. cc e;
-    device = λ e. rose;
-    refuses = λ fault e. absurd (cc e);
-    limited = λ fault e. absurd (cc e);
-    spared = spared;
-    held = tt;
-  }
+  photograph_fails rose = sized_fails need s t name size sized (known_inside s t name 0 size calls) spared rose
 
   pub photograph_wants : SizedCall need s t name size (Err Memory)
-  photograph_wants = record {
-    calls = calls;
-    told = λ files told. tt;
-    memory = λ files told e. subst (λ (k : Result Kind Fault). IsOk k) (sym (known_as (bytes_of files name) Jpeg (kind files told))) refl;
-    there = λ e. cc e;
-    device = λ e. absurd (cc e);
-    refuses = λ fault e. absurd (cc e);
-    limited = λ fault e. absurd (cc e);
-    spared = spared;
-    held = tt;
-  }
+  photograph_wants = sized_wants need s t name size sized (known_inside s t name 0 size calls) spared
+      (λ files told. subst (λ (k : Result Kind Fault). IsOk k) (sym (known_as (bytes_of files name) Jpeg (kind files told) refl)) refl)
 
   -- what is kept
   pub photograph_kept : (kept : Kept) → Told s.files (λ files. IsCut need (bytes_of files name) (Ok kept)) → IsOfSize size kept → SizedCall need s t name size (Ok kept)
-  photograph_kept kept cut held = record {
-    calls = calls;
-    told = λ files told. by_known need (bytes_of files name) (Ok Jpeg) (Ok kept) (known_as (bytes_of files name) Jpeg (kind files told))
-        (Ok kept, cut files told, limited_ok size kept kept.payload held.payload);
-    memory = λ files told e. absurd (cc e);
-    there = λ e. cc e;
-    device = λ e. absurd (cc e);
-    refuses = λ fault e. absurd (cc e);
-    limited = λ fault e. absurd (cc e);
-    spared = spared;
-    held = held;
-  }
+  photograph_kept kept cut held = sized_kept need s t name size sized (known_inside s t name 0 size calls) spared kept
+      (λ files told. by_known need (bytes_of files name) (Ok Jpeg) (Ok kept) (known_as (bytes_of files name) Jpeg (kind files told) refl)
+      (Ok kept, cut files told, limited_ok size kept kept.payload held.payload)) held
 
   -- a fault of the container
   pub photograph_refused : (rule : Rule) (place : ℕ) → len_of t name ≡ size → FaultIn size place rule → Told s.files (λ files. IsCut need (bytes_of files name) (Err (fault_at rule File place)))
       → SizedCall need s t name size (Err (Refused (fault_at rule File place)))
   photograph_refused rule place len fault cut =
       let f = fault_refused size place rule fault in
-      sized_refusal need s t name size sized (fault_at rule File place) calls
-      (subst (λ (n : ℕ). MovesInside name 0 n s.reads t.reads) (sym (ap (read_before rule) len ∙ f.2)) calls.reads)
+      sized_refusal need s t name size sized (fault_at rule File place) (known_inside s t name 0 size calls)
+      (inl (subst (λ (n : ℕ). MovesInside name 0 n s.reads t.reads) (sym (ap (read_before rule) len ∙ f.2)) calls.reads))
       (subst (λ (n : ℕ). IsLoadRefusal n rule (fault_at rule File place)) (sym len) f.0) f.1 spared
-      (λ files told. by_known need (bytes_of files name) (Ok Jpeg) (Err (fault_at rule File place)) (known_as (bytes_of files name) Jpeg (kind files told))
+      (λ files told. by_known need (bytes_of files name) (Ok Jpeg) (Err (fault_at rule File place)) (known_as (bytes_of files name) Jpeg (kind files told) refl)
       (Err (fault_at rule File place), cut files told, refl))
 
-len_same : (s t : DeskState) (name : List ℕ) (size : ℕ) → t.lens ≡ s.lens → len_of s name ≡ size → len_of t name ≡ size
+pub len_same : (s t : DeskState) (name : List ℕ) (size : ℕ) → t.lens ≡ s.lens → len_of s name ≡ size → len_of t name ≡ size
 len_same s t name size lens len = ap (λ (m : Lens). unwrap_or (get m name) 0) lens ∙ len
 
 -- a packet without a note names no text
@@ -312,14 +284,14 @@ module _ (need : Need) (s t : DeskState) (name : List ℕ) (size : ℕ) (sized :
           let len = len_same s t name size call.lens sized.len in
           let reads = cut_reads s t name size _ call in
           subst (λ (f : Fault). SizedCall need s t name size (Err (Refused f))) (sym is)
-          (sized_refusal need s t name size sized (over_packet (range.end - range.start)) reads
-          (subst (λ (n : ℕ). MovesInside name 0 n s.reads t.reads) (sym len) reads.reads)
+          (sized_refusal need s t name size sized (over_packet (range.end - range.start)) (known_inside s t name 0 size reads)
+          (inl (subst (λ (n : ℕ). MovesInside name 0 n s.reads t.reads) (sym len) reads.reads))
           (long, omega (arith, placed.within, len), refl) (λ x. cc x) (cut_spares need s t name kind call.calls)
           (λ files told.
           let file = bytes_of files name in
           let kept : Kept = photograph need (length file) regions (Some (piece_at file range)) [] None in
           let same : length (piece_at file range).bytes ≡ range.end - range.start = length_piece file (sized.whole files told) in
-          by_known need file (Ok Jpeg) (Err (over_packet (range.end - range.start))) (known_as file Jpeg (kind files told)) (
+          by_known need file (Ok Jpeg) (Err (over_packet (range.end - range.start))) (known_as file Jpeg (kind files told) refl) (
             Ok kept,
             record {
               regions = regions;

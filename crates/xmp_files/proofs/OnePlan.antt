@@ -3,14 +3,14 @@ use Rattle.std.proofs.Common.{◌≡◌, ◌∙◌, ℕ, ◌+◌, arith, List, [
 use Rattle.std.specs.declared.result.Result.{Result}
 use Rattle.xmp_values.specs.declared.faults.Fault.{Fault}
 use Rattle.xmp_values.specs.declared.hints.Hint.{Hint}
-use Rattle.xmp_values.specs.declared.rules.Rule.TheVariants.{NoFile}
+use Rattle.xmp_values.specs.declared.rules.Rule.TheVariants.{NoFile, NotBuilt}
 use Rattle.xmp_tree.specs.Parts.{Parts}
 use Rattle.jpeg_regions.specs.Jpeg.{Region}
 use Rattle.jpeg_extended.specs.Written.{name_text}
 use Rattle.jpeg_relocation.proofs.Names.{name_capitals}
 use Rattle.xmp_base.specs.declared.file_span.FileSpan.{FileSpan}
-use Rattle.xmp_files.specs.Keeping.{Container, Text, Segments, Kept}
-use Rattle.xmp_files.specs.Faults.{file_limit, packet_limit, over_packet, over_extended}
+use Rattle.xmp_files.specs.Keeping.{Container, Text, Segments, Directories, Kept}
+use Rattle.xmp_files.specs.Faults.{file_limit, packet_limit, over_packet, over_extended, not_built}
 use Rattle.std.specs.Prelude.{nat_lt}
 use Rattle.jpeg_relocation.specs.declared.pictures.MovedPictures.{MovedPictures}
 use Rattle.jpeg_relocation.specs.Pictures.{moved_pictures}
@@ -32,6 +32,7 @@ one_relocation (Segments regions) portions e a b (inl p) (inl q) = p.1 ∙ sym q
 one_relocation (Segments regions) portions e a b (inl p) (inr q) = absurd (omega (arith, p.0, q.0))
 one_relocation (Segments regions) portions e a b (inr p) (inl q) = absurd (omega (arith, p.0, q.0))
 one_relocation (Segments regions) portions e a b (inr p) (inr q) = one_divided regions portions e.new e.hints a b p.1 q.1
+one_relocation (Directories size tiff) portions e a b p q = p ∙ sym q
 
 one_moved : (known : Option (Result Plan Fault)) (container : Container) (portions : List FileSpan) (e : Edited) (a b : Result Plan Fault) → OrRelocation known container portions e a → OrRelocation known container portions e b → a ≡ b
 one_moved (Some known) container portions e a b p q = p ∙ sym q
@@ -68,11 +69,17 @@ divided_there regions portions t hints fault (inl (k, s, h)) rule =
     both_there (nat_lt packet_limit (length rest)) regions portions (segments_text (front_packet t hints k) (Some rest)) (over_extended (told (length rest))) fault (λ x. cc) h rule
 divided_there regions portions t hints fault (inr (least, n, h)) rule = named_there fault (over_segment least) (λ x. cc) h rule
 
+unbuilt_there : (fault : Fault) → (let r : Result Plan Fault = Err fault in r) ≡ Err not_built → fault.rule ≡ NoFile → ⊥
+unbuilt_there fault h rule =
+    let is : fault ≡ not_built = cc h in
+    let bad : NotBuilt ≡ NoFile = sym (ap (λ (f : Fault). f.rule) is) ∙ rule in cc bad
+
 relocation_there : (container : Container) (portions : List FileSpan) (e : Edited) (fault : Fault) → IsRelocation container portions e (Err fault) → fault.rule ≡ NoFile → ⊥
 relocation_there Text portions e fault h rule = cc h
 relocation_there (Segments regions) portions e fault (inl h) rule =
     let new : List ℕ = segments_text (packet_of e (segment_padded (least_of e))) None in among_there (moved_pictures portions regions (length new)) (parts_around regions portions new) fault h.1 rule
 relocation_there (Segments regions) portions e fault (inr h) rule = divided_there regions portions e.new e.hints fault h.1 rule
+relocation_there (Directories size tiff) portions e fault h rule = unbuilt_there fault h rule
 
 moved_there : (over fit patch : Bool) (f g : Fault) (inside : Plan) (container : Container) (portions : List FileSpan) (e : Edited) (fault : Fault) → (f.rule ≡ NoFile → ⊥) → (g.rule ≡ NoFile → ⊥)
     → OrRelocation (if over then Some (Err f) else (if fit then Some (Ok inside) else (if patch then Some (Err g) else None))) container portions e (Err fault) → fault.rule ≡ NoFile → ⊥

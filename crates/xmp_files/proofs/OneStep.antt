@@ -1,5 +1,5 @@
 -- What is kept of a file, and what it means, have at most one step each.
-use Rattle.std.proofs.Common.{◌≡◌, ◌∙◌, ℕ, List, [], Ok, Err, Some, None, sym, ap, subst}
+use Rattle.std.proofs.Common.{◌≡◌, ◌∙◌, ℕ, List, [], length, Ok, Err, Some, None, sym, ap, subst}
 use Rattle.std.specs.declared.option.Option.{Option}
 use Rattle.std.specs.declared.result.Result.{Result}
 use Rattle.std.specs.Option.{unwrap_or}
@@ -7,16 +7,22 @@ use Rattle.xmp_values.specs.declared.faults.Fault.{Fault}
 use Rattle.xmp_values.specs.declared.faults.Part.TheVariants.{File}
 use Rattle.xmp_values.specs.Stops.{fault_at}
 use Rattle.xmp_values.specs.declared.rules.Rule.{Rule}
+use Rattle.xmp_values.specs.declared.rules.Rule.TheVariants.{TwoPackets}
 use Rattle.xmp_rdf.specs.declared.meanings.Meaning.{Meaning}
 use Rattle.xmp_packets.specs.Packets.{packet_text}
 use Rattle.xmp_files.specs.declared.kinds.Kind.{Kind}
-use Rattle.xmp_files.specs.declared.kinds.Kind.TheVariants.{Jpeg, Sidecar}
+use Rattle.xmp_files.specs.declared.kinds.Kind.TheVariants.{Jpeg, Tiff, BigTiff, Sidecar}
 use Rattle.xmp_files.specs.declared.held.Need.{Need}
 use Rattle.xmp_files.specs.declared.held.Need.TheVariants.{Packet}
 use Rattle.xmp_files.specs.declared.opening.Opened.{Opened}
 use Rattle.xmp_files.specs.Stages.{followed, Followed}
-use Rattle.xmp_files.specs.Keeping.{Piece, Kept}
+use Rattle.xmp_files.specs.Keeping.{Piece, Kept, image}
 use Rattle.xmp_files.specs.Photographs.{IsCut}
+use Rattle.tiff_dirs.specs.Tiff.{Tiff as Dirs}
+use Rattle.tiff_dirs.specs.declared.stop.TiffStop.{TiffStop}
+use Rattle.tiff_dirs.specs.declared.stop.TiffStop.TheVariants as stops
+use Rattle.tiff_dirs.proofs.Unique.{tiff_same, fault_same as walk_fault_same, list_or_fault as walk_or_fault}
+use Rattle.xmp_files.specs.Images.{IsWalked, tiff_packet, image_fault}
 use Rattle.jpeg_regions.proofs.Faults.{fault_same, list_or_fault}
 use Rattle.xmp_files.specs.Loading.{kind_of_file, limited, IsContained, IsKept, IsLoaded}
 use Rattle.xmp_files.specs.declared.held.Extended.{Extended}
@@ -66,9 +72,26 @@ one_cut need bytes (Err f) (Err g) p q =
     ap (λ (x : Fault). let r : Result Kept Fault = Err x in r)
     (p.3 ∙ ap (λ (rule : Rule). fault_at rule File p.1) same.0 ∙ ap (λ (place : ℕ). fault_at q.0 File place) same.1 ∙ sym q.3)
 
+-- a stop of a walk as a fault
+abbrev fault_as : TiffStop → Fault
+fault_as (stops.Fault rule place x y) = image_fault rule place x y
+fault_as stops.Memory = image_fault TwoPackets 0 0 0
+
+one_walked : (need : Need) (bytes : List ℕ) → One (IsWalked need bytes)
+one_walked need bytes (Ok k) (Ok l) p q =
+    let same : p.tiff ≡ q.tiff = tiff_same bytes p.tiff q.tiff p.walked q.walked in
+    ap (λ (x : Kept). let r : Result Kept Fault = Ok x in r) (p.is ∙ ap (λ (t : Dirs). image need (length bytes) t (tiff_packet bytes t)) same ∙ sym q.is)
+one_walked need bytes (Ok k) (Err f) p q = absurd (walk_or_fault bytes p.tiff (stops.Fault q.0 q.1 q.2 q.3) p.walked q.4)
+one_walked need bytes (Err f) (Ok k) p q = absurd (walk_or_fault bytes q.tiff (stops.Fault p.0 p.1 p.2 p.3) q.walked p.4)
+one_walked need bytes (Err f) (Err g) p q =
+    let same : stops.Fault p.0 p.1 p.2 p.3 ≡ stops.Fault q.0 q.1 q.2 q.3 = walk_fault_same bytes (stops.Fault p.0 p.1 p.2 p.3) (stops.Fault q.0 q.1 q.2 q.3) p.4 q.4 in
+    ap (λ (x : Fault). let r : Result Kept Fault = Err x in r) (p.5 ∙ ap fault_as same ∙ sym q.5)
+
 one_contained : (need : Need) (kind : Kind) (bytes : List ℕ) → One (IsContained need kind bytes)
 one_contained need Sidecar bytes = λ a b p q. p ∙ sym q
 one_contained need Jpeg bytes = one_cut need bytes
+one_contained need Tiff bytes = one_walked need bytes
+one_contained need BigTiff bytes = one_walked need bytes
 one_contained need other bytes = λ a b p q. p ∙ sym q
 
 one_kept : (need : Need) (bytes : List ℕ) (kind : Kind) → One (IsKept need bytes kind)

@@ -13,12 +13,13 @@ use Rattle.xmp_write.specs.WrittenPackets.{header, trailer, pad, packet, least_l
 use Rattle.xmp_write.proofs.PutPackets.{length-pad}
 use Rattle.xmp_base.specs.Device.{put_at}
 use Rattle.xmp_files.specs.declared.kinds.Kind.{Kind}
-use Rattle.xmp_files.specs.declared.kinds.Kind.TheVariants.{Jpeg, Sidecar}
+use Rattle.xmp_files.specs.declared.kinds.Kind.TheVariants.{Jpeg, Tiff, BigTiff, Sidecar}
 use Rattle.xmp_files.specs.declared.held.Need.{Need}
 use Rattle.xmp_files.specs.Faults.{packet_limit, over_packet, not_built}
 use Rattle.xmp_files.specs.Stages.{followed, Followed}
-use Rattle.xmp_files.specs.Keeping.{Piece, Text, Segments, Kept, sidecar}
+use Rattle.xmp_files.specs.Keeping.{Piece, Text, Segments, Directories, Kept, sidecar}
 use Rattle.xmp_files.specs.Photographs.{IsCut}
+use Rattle.xmp_files.specs.Images.{IsWalked}
 use Rattle.xmp_files.specs.Loading.{limited, limited_by, IsKept}
 
 -- a packet has the length that is asked for, where that is at least its least one
@@ -48,6 +49,12 @@ cut_no_text need bytes (Err fault) kept cut e text = let bad : Ok kept ≡ Err f
 cut_no_text need bytes (Ok other) kept cut e text =
     let bad : Segments cut.regions ≡ Text = sym (ap (λ (k : Kept). k.container) (limited_keeps kept other other.payload e ∙ cut.is)) ∙ text in cc bad
 
+-- nor is a TIFF file
+pub walked_no_text : (need : Need) (bytes : List ℕ) (held : Result Kept Fault) (kept : Kept) → IsWalked need bytes held → Ok kept ≡ followed held limited → kept.container ≡ Text → ⊥
+walked_no_text need bytes (Err fault) kept walked e text = let bad : Ok kept ≡ Err fault = e in cc bad
+walked_no_text need bytes (Ok other) kept walked e text =
+    let bad : Directories (length bytes) walked.tiff ≡ Text = sym (ap (λ (k : Kept). k.container) (limited_keeps kept other other.payload e ∙ walked.is)) ∙ text in cc bad
+
 -- what is kept of a sidecar is its packet
 pub sidecar_kept : (need : Need) (bytes : List ℕ) (kept : Kept) → IsKept need bytes Sidecar (Ok kept) → kept ≡ sidecar need bytes
 sidecar_kept need bytes kept h =
@@ -57,6 +64,8 @@ sidecar_kept need bytes kept h =
 pub is_sidecar : (need : Need) (bytes : List ℕ) (by : Result Kind Fault) (kept : Kept) → Followed by (IsKept need bytes) (Ok kept) → kept.container ≡ Text → kept ≡ sidecar need bytes
 is_sidecar need bytes (Err fault) kept h text = absurd (cc h)
 is_sidecar need bytes (Ok Jpeg) kept h text = absurd (cut_no_text need bytes h.0 kept h.1 h.2 text)
+is_sidecar need bytes (Ok Tiff) kept h text = absurd (walked_no_text need bytes h.0 kept h.1 h.2 text)
+is_sidecar need bytes (Ok BigTiff) kept h text = absurd (walked_no_text need bytes h.0 kept h.1 h.2 text)
 is_sidecar need bytes (Ok Sidecar) kept h text =
     kept_by (nat_lt packet_limit (length bytes)) kept (sidecar need bytes) (over_packet (length bytes)) (h.2 ∙ ap (λ (r : Result Kept Fault). followed r limited) h.1)
 is_sidecar need bytes (Ok kind) kept h text =

@@ -1,5 +1,5 @@
 -- A plan that changes a file in its place alone, and what patching it leaves.
-use Rattle.std.proofs.Common.{◌≡◌, ◌⊎◌, ℕ, ◌+◌, ◌≤◌, Bool, true, false, cond, List, [], ◌∷◌, ◌++◌, length, take, drop, Some, None, Ok, Err, IsTrue, refl, inl, inr, arith, ap, sym, subst, ◌∙◌, if◌then◌else◌}
+use Rattle.std.proofs.Common.{◌≡◌, ◌⊎◌, ℕ, ◌+◌, ◌<◌, ◌≤◌, Bool, true, false, cond, List, [], ◌∷◌, ◌++◌, length, take, drop, Some, None, Ok, Err, IsTrue, refl, inl, inr, arith, ap, sym, subst, ◌∙◌, if◌then◌else◌}
 use Rattle.std.specs.Prelude.{◌≢◌, nat_eq, nat_lt, ◌&&◌, ◌||◌, codes}
 use Rattle.std.specs.List.{prefix_len}
 use Rattle.std.specs.Option.{ok_or, option_map}
@@ -20,8 +20,8 @@ use Rattle.xmp_files.specs.declared.held.Need.TheVariants.{Packet}
 use Rattle.xmp_files.specs.Faults.{packet_limit, over_packet, file_limit, over_limit, not_known}
 use Rattle.xmp_files.specs.Kinds.{kind_of, kind_of_head, is_jpeg, is_tiff, is_big_tiff, is_webp, is_psd, is_markup, is_sidecar, without_mark, begins}
 use Rattle.xmp_files.specs.Stages.{followed, Followed}
-use Rattle.xmp_files.specs.Keeping.{Piece, Container, Text, Segments, Kept, sidecar}
-use Rattle.xmp_files.specs.Loading.{known, kind_of_file, IsKept, IsLoaded}
+use Rattle.xmp_files.specs.Keeping.{Piece, Container, Text, Segments, Directories, Kept, sidecar}
+use Rattle.xmp_files.specs.Loading.{known, with_offsets, kind_of_file, IsKept, IsLoaded}
 use Rattle.xmp_files.specs.Opening.{Holds, IsWhole, HoldsTree}
 use Rattle.xmp_files.specs.Planning.{Edited, Plan, Same, InPlace, planned_file}
 use Rattle.xmp_files.specs.Plans.{packet_of, least_of, padding, fits, exchanged, digest_pieces, whole_form, told, needs_relocation, room_of, place_of, Apart, NoStray, IsEdited, IsPlanned, OrRelocation, stays}
@@ -29,9 +29,10 @@ use Rattle.xmp_base.specs.declared.file_span.FileSpan.{FileSpan}
 use Rattle.xmp_files.specs.Loads.{PayloadLies, IsOfSize}
 use Rattle.xmp_files.specs.Patching.{IsLeft, IsPatchPlan, PatchCall, DocumentOrFault, FileIsPatched, new_payload}
 use Rattle.xmp_files.proofs.ClosedPackets.{closed_some, photograph_refused}
+use Rattle.xmp_files.proofs.ClosedImages.{image_closed}
 use Rattle.xmp_files.proofs.ExchangedPackets.{Stands, loaded_stands, same_piece, whole_piece}
 use Rattle.xmp_files.proofs.LoadedKept.{LoadedAs, loaded_as, loaded_small}
-use Rattle.xmp_files.proofs.OpenPackets.{writable_open, packet_open}
+use Rattle.xmp_files.proofs.OpenPackets.{writable_open, writable_long, packet_open}
 use Rattle.xmp_files.proofs.PacketLengths.{over_all}
 use Rattle.xmp_files.proofs.PlanCases.{IsExchange, exchange_of}
 use Rattle.xmp_files.proofs.Writes.{file_written}
@@ -114,7 +115,7 @@ closed_refused : (now : List ℕ) → length now ≤ packet_limit → Closed now
 closed_refused now short closed =
     let there : kind_of_file (Some now) ≡ Err not_known =
     ap (λ (b : Bool). followed (cond b (Err (over_limit (length now))) (Ok now)) known) (le-ltb file_limit (length now) (omega (arith, short)))
-    ∙ ap (λ (k : Option Kind). ok_or k not_known) (closed_kind now closed) in
+    ∙ ap (λ (k : Option Kind). followed (ok_or k not_known) (with_offsets (take 16 now))) (closed_kind now closed) in
     let is_loaded : IsLoaded Packet (Some now) (Err not_known) = subst (λ (x : Result Kind Fault). Followed x (IsKept Packet now) (Err not_known)) (sym there) refl in
     (Err not_known, is_loaded, refl)
 
@@ -129,18 +130,23 @@ module _ (decided : DocumentOrFault) (need : Need) (old : List ℕ) (kept : Kept
       let same : put_at old payload.at now ≡ old = ap (put_at old payload.at) (is ∙ sym stands.there) ∙ sym (put_same payload.at (length payload.bytes) old stands.within) in
       subst (λ (file : List ℕ). HoldsTree (Some file) e.old) (sym same) holds
 
-  -- a closed packet is refused: a sidecar as a file of no kind, and a JPEG file by its packet's XML
-  closed_by : Closed now → LoadedAs need old kept → (fault : Fault) × Holds (Some (put_at old payload.at now)) (Err fault)
-  closed_by closed (inl s) =
+  -- a closed packet is refused: a sidecar as a file of no kind, and a photograph by its packet's XML
+  closed_by : Closed now → 8 < length now → LoadedAs need old kept → (fault : Fault) × Holds (Some (put_at old payload.at now)) (Err fault)
+  closed_by closed long (inl s) =
       let is : whole_piece old ≡ payload = same_piece (whole_piece old) payload (sym (ap (λ (k : Kept). k.payload) s.is) ∙ there) in
       let whole : put_at old payload.at now ≡ now = subst (λ (q : Piece). length now ≡ length q.bytes → put_at old q.at now ≡ now) is (λ same. over_all old now same) as_long in
       (not_known, subst (λ (file : List ℕ). Holds (Some file) (Err not_known)) (sym whole) (closed_refused now (omega (arith, as_long, stands.short)) closed))
-  closed_by closed (inr p) =
+  closed_by closed long (inr (inr x)) =
+      image_closed decided need old kept x.is payload there x.kind now as_long long (loaded_small need old kept loaded) (omega (arith, as_long, stands.short)) closed
+  closed_by closed long (inr (inl p)) =
       photograph_refused decided need old kept p.is payload there now as_long (closed_some now closed) (loaded_small need old kept loaded) (omega (arith, as_long, stands.short)) closed
 
   module _ (exchanged_holds : HoldsTree (Some (planned_file old plan)) e.new) (x : IsExchange kept.payload e plan) (left : IsLeft payload.bytes plan now) where
     same : x.old ≡ payload
     same = let h : Some payload ≡ Some x.old = sym there ∙ x.there in sym cc
+
+    long : 8 < length now
+    long = let full = writable_long x.old.bytes x.writable in omega (arith, full, ap (λ (p : Piece). length p.bytes) same, as_long)
 
     new_file : now ≡ packet_of e (length x.old.bytes) → planned_file old plan ≡ put_at old payload.at now
     new_file is = ap (planned_file old) x.is ∙ (λ i. put_at old (same i).at (sym is i))
@@ -149,17 +155,19 @@ module _ (decided : DocumentOrFault) (need : Need) (old : List ℕ) (kept : Kept
     exchange_left = elim (subst (λ (p : Plan). IsLeft payload.bytes p now) x.is left) [
       | inl is ↦ inl (left_old is)
       | inr (inl is) ↦ inr (inl (subst (λ (file : List ℕ). HoldsTree (Some file) e.new) (new_file is) exchanged_holds))
-      | inr (inr closed) ↦ inr (inr (closed_by closed (loaded_as need old kept loaded)))
+      | inr (inr closed) ↦ inr (inr (closed_by closed long (loaded_as need old kept loaded)))
     ]
 
 -- a file that is changed in its place has no portion that could stray
 apart_any : (container : Container) → Apart container
 apart_any Text = tt
 apart_any (Segments regions) = tt
+apart_any (Directories size tiff) = tt
 
 stray_near : (file : List ℕ) (container : Container) (joined : List FileSpan) (e : Edited) (pieces : List Piece) → NoStray file container joined e (InPlace pieces)
 stray_near file Text joined e pieces = tt
 stray_near file (Segments regions) joined e pieces = tt
+stray_near file (Directories size tiff) joined e pieces = tt
 
 pub file_patched : DocumentOrFault → FileIsPatched
 file_patched decided need old kept joined e plan loaded fixed planned holds may payload there now as_long left = by_plan (patch_plan kept joined e plan fixed planned)

@@ -1,6 +1,6 @@
 -- Where a packet that fits is put, and that a change of the tree is a plan.
 use Rattle.std.proofs.Common.{◌≡◌, ℕ, ◌+◌, ◌<◌, ◌≤◌, Bool, true, false, List, [], ◌∷◌, ◌++◌, Some, None, Ok, Err, refl, inl, inr, arith, ap, sym, subst, ◌∙◌}
-use Rattle.std.specs.Prelude.{◌≢◌, not, min, nat_lt}
+use Rattle.std.specs.Prelude.{◌≢◌, is_some, not, min, nat_lt}
 use Rattle.std.proofs.Math.Nat.{min-le_left, min-eq_left}
 use Rattle.std.proofs.lemmas.Bool.{le-ltb}
 use Rattle.std.specs.declared.result.Result.{Result}
@@ -9,12 +9,14 @@ use Rattle.xmp_values.specs.declared.hints.Hint.{Hint}
 use Rattle.xmp_write.specs.declared.forms.Form.{Form}
 use Rattle.xmp_write.specs.Prefixes.{prefixes}
 use Rattle.xmp_write.specs.WrittenPackets.{least_len, packet}
-use Rattle.xmp_files.specs.Faults.{packet_limit}
+use Rattle.xmp_files.specs.Faults.{packet_limit, not_built}
 use Rattle.std.specs.declared.option.Option.{Option}
+use Rattle.std.specs.Option.{option_copied}
+use denote.Ref.{Bor}
 use Rattle.std.proofs.lemmas.Bool.{and_parts}
 use Rattle.xmp_values.specs.declared.stops.FaultStop.{FaultStop}
 use Rattle.xmp_values.specs.declared.stops.FaultStop.TheVariants as faults
-use Rattle.xmp_files.specs.Keeping.{Piece, Container, Text, Segments, regions_in, Kept}
+use Rattle.xmp_files.specs.Keeping.{Piece, Container, Text, Segments, Directories, regions_in, directories_in, Kept}
 use Rattle.xmp_base.specs.declared.file_span.FileSpan.{FileSpan}
 use Rattle.jpeg_regions.specs.Jpeg.{Region}
 use Rattle.jpeg_relocation.specs.NewSegments.{main_limit}
@@ -23,11 +25,17 @@ use Rattle.xmp_files.specs.Planning.{Edited, New, Plan, Same, InPlace, Relocated
 use Rattle.xmp_files.specs.Plans.{packet_of, room_of, put_over, told, padding, least_of, whole_form, unmoved, IsDivided, IsRelocation, OrRelocation, IsMoved, IsPlanned, stays, fits, exchanged, digest_pieces, put_among, segment_padded, segments_text}
 use Rattle.xmp_files.specs.Planneds.{AmongAnswer, DivideAnswer, MoveAnswer, PlanAnswer, plan_of}
 
+-- an option of a reference
+pub copied_some : {T : Type 0} (o : Option (Bor T)) → is_some (option_copied o) ≡ is_some o
+copied_some None = refl
+copied_some (Some x) = refl
+
 -- a packet that fits is put over the payload
 pub placed : (payload : Option Piece) (container : Container) (joined : Bool) (least : ℕ) (e : Edited) → fits payload joined least ≡ true
     → InPlace (exchanged payload e ++ digest_pieces container e.digest) ≡ put_over payload (packet_of e (room_of payload))
 placed (Some payload) Text joined least e h = refl
 placed (Some payload) (Segments regions) joined least e h = refl
+placed (Some payload) (Directories size tiff) joined least e h = refl
 placed None container joined least e h =
     let parts = and_parts (not joined) false h in
     let no : false ≡ true = parts.1 in
@@ -86,14 +94,23 @@ not_fitting payload container portions joined e least step same short fit h =
     let first : unmoved payload container joined false e ≡ None = rw (test, fit_2) refl in
     subst (λ (known : Option (Result Plan Fault)). OrRelocation known container portions e step) (sym first) h
 
-anew_relocation : (container : Container) (portions : List FileSpan) (e : Edited) (padded : ℕ) (bytes : List ℕ) → regions_in container ≡ None → padded ≡ least_of e + padding → bytes ≡ packet_of e padded
+anew_relocation : (container : Container) (portions : List FileSpan) (e : Edited) (padded : ℕ) (bytes : List ℕ) → is_some (directories_in container) ≡ false → regions_in container ≡ None → padded ≡ least_of e + padding → bytes ≡ packet_of e padded
     → IsRelocation container portions e (Ok (Relocated (New bytes ∷ [])))
-anew_relocation Text portions e padded bytes text padded_is is = ap (λ (l : List ℕ). ok_plan (Relocated (New l ∷ []))) (is ∙ ap (packet_of e) padded_is)
-anew_relocation (Segments regions) portions e padded bytes text padded_is is = absurd (cc text)
+anew_relocation Text portions e padded bytes none text padded_is is = ap (λ (l : List ℕ). ok_plan (Relocated (New l ∷ []))) (is ∙ ap (packet_of e) padded_is)
+anew_relocation (Segments regions) portions e padded bytes none text padded_is is = absurd (cc text)
+anew_relocation (Directories size tiff) portions e padded bytes none text padded_is is = absurd (cc none)
+
+-- a TIFF file isn't relocated yet
+image_relocation : (container : Container) (portions : List FileSpan) (e : Edited) (fault : Fault) → is_some (directories_in container) ≡ true → fault ≡ not_built
+    → IsRelocation container portions e (Err fault)
+image_relocation Text portions e fault dirs is = absurd (cc dirs)
+image_relocation (Segments regions) portions e fault dirs is = absurd (cc dirs)
+image_relocation (Directories size tiff) portions e fault dirs is = ap (λ (f : Fault). let r : Result Plan Fault = Err f in r) is
 
 divided_relocation : (container : Container) (portions : List FileSpan) (e : Edited) (regions : List Region) (step : Result Plan Fault) → regions_in container ≡ Some regions → main_limit < least_of e
     → IsDivided regions portions e.new e.hints step → IsRelocation container portions e step
 divided_relocation Text portions e regions step segments long is = absurd (cc segments)
+divided_relocation (Directories size tiff) portions e regions step segments long is = absurd (cc segments)
 divided_relocation (Segments others) portions e regions step segments long is =
     let same : regions ≡ others = (let h : Some others ≡ Some regions = segments in sym cc) in
     inr (long, subst (λ (rs : List Region). IsDivided rs portions e.new e.hints step) same is)
@@ -101,6 +118,7 @@ divided_relocation (Segments others) portions e regions step segments long is =
 among_relocation : (container : Container) (portions : List FileSpan) (e : Edited) (regions : List Region) (step : Result Plan Fault) → regions_in container ≡ Some regions → least_of e ≤ main_limit
     → step ≡ put_among regions portions (segments_text (packet_of e (segment_padded (least_of e))) None) → IsRelocation container portions e step
 among_relocation Text portions e regions step segments short is = absurd (cc segments)
+among_relocation (Directories size tiff) portions e regions step segments short is = absurd (cc segments)
 among_relocation (Segments others) portions e regions step segments short is =
     let same : regions ≡ others = (let h : Some others ≡ Some regions = segments in sym cc) in
     inl (short, is ∙ ap (λ (rs : List Region). put_among rs portions (segments_text (packet_of e (segment_padded (least_of e))) None)) same)
@@ -119,13 +137,19 @@ module _ (payload : Option Piece) (container : Container) (portions : List FileS
   numbers = least_small (least_of e) least padded (least_is ∙ ap told lens) padded_is small
 
   -- a sidecar is written anew
-  pub anew_moved : (plan : Plan) (bytes : List ℕ) → regions_in container ≡ None → plan ≡ Relocated (New bytes ∷ []) → bytes ≡ packet ps e.new form padded → IsMoved payload container portions joined patch e (Ok plan)
-  anew_moved plan bytes text plan_is is =
+  pub anew_moved : (plan : Plan) (bytes : List ℕ) → is_some (directories_in container) ≡ false → regions_in container ≡ None → plan ≡ Relocated (New bytes ∷ []) → bytes ≡ packet ps e.new form padded → IsMoved payload container portions joined patch e (Ok plan)
+  anew_moved plan bytes none text plan_is is =
       let same : packet ps e.new form padded ≡ packet_of e padded = rw (ps_is, form_is) refl in
       subst (λ (b : Bool). IsMoved payload container portions joined b e (Ok plan)) (sym anew)
       (subst (λ (p : Plan). IsMoved payload container portions joined false e (Ok p)) (sym plan_is)
       (not_fitting payload container portions joined e least (Ok (Relocated (New bytes ∷ []))) numbers.0 numbers.1 fit
-      (anew_relocation container portions e padded bytes text (padded_small (least_of e) least padded numbers.0 numbers.1 padded_is) (is ∙ same))))
+      (anew_relocation container portions e padded bytes none text (padded_small (least_of e) least padded numbers.0 numbers.1 padded_is) (is ∙ same))))
+
+  -- a TIFF file isn't relocated yet
+  pub image_moved : (fault : Fault) → is_some (directories_in container) ≡ true → fault ≡ not_built → IsMoved payload container portions joined patch e (Err fault)
+  image_moved fault dirs is =
+      subst (λ (b : Bool). IsMoved payload container portions joined b e (Err fault)) (sym anew)
+      (not_fitting payload container portions joined e least (Err fault) numbers.0 numbers.1 fit (image_relocation container portions e fault dirs is))
 
   -- a tree that is too long for a segment is divided
   divided_moved : (regions : List Region) (step : Result Plan Fault) → regions_in container ≡ Some regions → main_limit < least → IsDivided regions portions e.new e.hints step

@@ -6,8 +6,8 @@ use Rattle.std.proofs.lemmas.Bool.{and_parts, leb-true, ltb-false}
 use Rattle.xmp_values.specs.declared.faults.Fault.{Fault}
 use Rattle.xmp_packets.specs.Packets.{is_writable}
 use Rattle.xmp_write.specs.Splits.{IsSplit}
-use Rattle.xmp_files.specs.Faults.{file_limit, packet_limit, over_packet, over_extended}
-use Rattle.xmp_files.specs.Keeping.{Piece, Container, Text, Segments, Kept}
+use Rattle.xmp_files.specs.Faults.{file_limit, packet_limit, over_packet, over_extended, not_built}
+use Rattle.xmp_files.specs.Keeping.{Piece, Container, Text, Segments, Directories, Kept}
 use Rattle.xmp_base.specs.declared.file_span.FileSpan.{FileSpan}
 use Rattle.jpeg_regions.specs.Jpeg.{Region}
 use Rattle.jpeg_relocation.specs.declared.pictures.MovedPictures.{MovedPictures}
@@ -60,6 +60,7 @@ Becomes payload container portions e plan =
 pub no_digest : (container : Container) (digest : Option (List ℕ)) → digest_pieces container digest ≡ []
 no_digest Text digest = refl
 no_digest (Segments regions) digest = refl
+no_digest (Directories size tiff) digest = refl
 
 stays_as : (container : Container) (digest : Option (List ℕ)) (plan : Plan) → plan ≡ stays container digest → (plan ≡ Same) ⊎ (plan ≡ InPlace [])
 stays_as container None plan is = inl is
@@ -117,6 +118,7 @@ anew_of : (container : Container) (portions : List FileSpan) (e : Edited) (plan 
     → IsAnew container e plan ⊎ (IsAmong container portions e plan ⊎ IsBoth container portions e plan)
 anew_of Text portions e plan within h = inl (record { text = refl; within = within; is = let is : Ok plan ≡ Ok (Relocated (New (packet_of e (least_of e + padding)) ∷ [])) = h in cc })
 anew_of (Segments regions) portions e plan within h = inr (among_of regions portions e plan h)
+anew_of (Directories size tiff) portions e plan within h = absurd (let bad : Ok plan ≡ Err not_built = h in cc)
 
 -- how a changed tree comes to a plan
 moved_cases : (over fit patch : Bool) (f g : Fault) (inside : Plan) (container : Container) (portions : List FileSpan) (e : Edited) (plan : Plan)

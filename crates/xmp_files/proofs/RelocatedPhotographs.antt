@@ -46,6 +46,7 @@ use Rattle.xmp_files.specs.Loading.{known, kind_of_file, limited_by, IsKept, IsL
 use Rattle.xmp_files.specs.Opening.{with_both, merged_to, IsOpened, HoldsTree}
 use Rattle.xmp_files.specs.Planning.{Part, Old, New, part_bytes, part_len, parts_bytes, parts_len, KeepsRegions}
 use Rattle.xmp_files.specs.Plans.{parts_around, segments_text}
+use Rattle.xmp_files.proofs.Loads.{known_as}
 use Rattle.xmp_files.proofs.KeptLie.{SpansLie, before_lie, after_lie}
 use Rattle.xmp_files.proofs.LoadedPhotographs.{unnamed}
 use Rattle.xmp_files.proofs.WrittenSidecars.{meant, means, opens}
@@ -177,7 +178,7 @@ module _ (old : List ℕ) (regions : List Region) (joined : List FileSpan) (jpeg
       let kind_is : kind_of file ≡ Some Jpeg = refl in
       let there_is : kind_of_file (Some file) ≡ Ok Jpeg =
       ap (λ (b : Bool). followed (cond b (Err (over_limit (length file))) (Ok file)) known) (le-ltb file_limit (length file) small)
-      ∙ ap (λ (k : Option Kind). ok_or k not_known) kind_is in
+      ∙ known_as file Jpeg kind_is refl in
       let short : length now ≤ packet_limit = omega (arith, limited) in
       let within : Ok kept ≡ limited_by kept (Some payload) =
       ap (λ (b : Bool). cond b (Err (over_packet (length now))) (Ok kept)) (sym (le-ltb packet_limit (length now) short)) in

@@ -22,7 +22,7 @@ use Rattle.jpeg_relocation.specs.Pictures.{moved_pictures}
 use Rattle.xmp_files.specs.declared.parts.FilePart.{FilePart}
 use Rattle.xmp_files.specs.declared.parts.FilePart.TheVariants as kept
 use Rattle.xmp_files.specs.Faults.{file_limit}
-use Rattle.xmp_files.specs.Keeping.{Container, Text, Segments, regions_in}
+use Rattle.xmp_files.specs.Keeping.{Container, Text, Segments, Directories, regions_in}
 use Rattle.xmp_files.specs.Loads.{ContainerLies}
 use Rattle.xmp_files.specs.NewFiles.{part_at, parts_at, range_of, PartLies, old_parts, kept_parts}
 use Rattle.xmp_files.specs.Planning.{Part, Old, New, Plan, Relocated, part_len, parts_len}
@@ -129,6 +129,7 @@ one_segment packet = sym (append-nil (text (main_segment packet)))
 pub container_lies : (size : ℕ) (container : Container) (portions : List FileSpan) (regions : List Region) → ContainerLies size container portions → regions_in container ≡ Some regions
     → Tiles 2 size regions × ArePicked portions (portion_payloads regions)
 container_lies size Text portions regions lies is = absurd (cc is)
+container_lies size (Directories len tiff) portions regions lies is = absurd (cc is)
 container_lies size (Segments others) portions regions lies is =
     let same : others ≡ regions = cc is in subst (λ (rs : List Region). Tiles 2 size rs × ArePicked portions (portion_payloads rs)) same lies
 

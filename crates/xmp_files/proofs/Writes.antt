@@ -9,7 +9,7 @@ use Rattle.round_trip.specs.Law.{MayWrite, SplitMeans, text_hints}
 use Rattle.round_trip.proofs.Meanings.{packet_reads_back, split_reads_back}
 use Rattle.xmp_files.specs.declared.held.Need.{Need}
 use Rattle.xmp_files.specs.Faults.{file_limit, packet_limit}
-use Rattle.xmp_files.specs.Keeping.{Piece, Container, Text, Segments, Kept}
+use Rattle.xmp_files.specs.Keeping.{Piece, Container, Text, Segments, Directories, Kept}
 use Rattle.xmp_files.specs.Loading.{IsLoaded}
 use Rattle.xmp_files.specs.Opening.{HoldsTree}
 use Rattle.jpeg_regions.specs.Jpeg.{Region, Jpeg as IsJpeg}
@@ -21,12 +21,13 @@ use Rattle.xmp_files.specs.Plans.{packet_of, least_of, padding, whole_form, segm
 use Rattle.xmp_files.specs.Written.{FileIsWritten}
 use Rattle.xmp_files.proofs.Agreeing.{put_agrees}
 use Rattle.xmp_files.proofs.ExchangedPackets.{Stands, loaded_stands, same_piece, whole_piece}
-use Rattle.xmp_files.proofs.LoadedKept.{IsSidecarOf, IsPhotographOf, LoadedAs, loaded_as, loaded_small}
-use Rattle.xmp_files.proofs.OpenPackets.{writable_some}
+use Rattle.xmp_files.proofs.LoadedKept.{IsSidecarOf, IsPhotographOf, IsImageOf, LoadedAs, loaded_as, loaded_small}
+use Rattle.xmp_files.proofs.OpenPackets.{writable_some, writable_long}
 use Rattle.xmp_files.proofs.PacketLengths.{length-packet, over_all}
 use Rattle.xmp_files.proofs.PlanCases.{IsExchange, IsAnew, IsAmong, IsBoth, Becomes, planned_cases}
 use Rattle.xmp_files.proofs.DividedTexts.{front_may, rest_may, front_limited, rest_some}
 use Rattle.xmp_files.proofs.RelocatedPhotographs.{around_bytes, around_len, relocated_holds, both_hold, keeps_regions}
+use Rattle.xmp_files.proofs.ExchangedImages.{image_holds}
 use Rattle.xmp_files.proofs.WrittenPhotographs.{photograph_holds}
 use Rattle.xmp_files.proofs.WrittenSidecars.{sidecar_reads_back}
 
@@ -54,6 +55,7 @@ stays_good kept old e plan (inr is) holds = subst (Good kept old e) (sym is) (ho
 anew_frame : (container : Container) (portions : List FileSpan) (old new : List ℕ) → container ≡ Text → KeepsPictures container portions old new
 anew_frame Text portions old new is = tt
 anew_frame (Segments regions) portions old new is = absurd (cc is)
+anew_frame (Directories size tiff) portions old new is = absurd (cc is)
 
 anew_good : (kept : Kept) (old : List ℕ) (e : Edited) (plan : Plan) → MayWrite e.new e.hints (whole_form e.new) → IsAnew kept.container e plan → Good kept old e plan
 anew_good kept old e plan may x =
@@ -91,7 +93,10 @@ module _ (need : Need) (old : List ℕ) (kept : Kept) (e : Edited) (plan : Plan)
 
   holds_by : LoadedAs need old kept → HoldsTree (Some (put_at old payload.at new)) e.new
   holds_by (inl s) = sidecar_holds s
-  holds_by (inr p) =
+  holds_by (inr (inr i)) =
+      image_holds need old kept i.is payload x.there i.kind new x.as_long (let full = writable_long payload.bytes x.writable in omega (arith, x.as_long, full))
+      (text_hints e.new e.hints (whole_form e.new)) e.new (loaded_small need old kept loaded) short (packet_reads_back e.new e.hints (length payload.bytes) may)
+  holds_by (inr (inl p)) =
       photograph_holds need old kept p.is payload x.there new x.as_long some (loaded_small need old kept loaded) short
       (text_hints e.new e.hints (whole_form e.new)) e.new (packet_reads_back e.new e.hints (length payload.bytes) may)
 
@@ -132,7 +137,8 @@ module _ (need : Need) (old : List ℕ) (kept : Kept) (e : Edited) (plan : Plan)
 
   among_by : LoadedAs need old kept → Good kept old e plan
   among_by (inl s) = absurd (let bad : Segments x.regions ≡ Text = sym x.segments ∙ ap (λ (k : Kept). k.container) s.is in cc bad)
-  among_by (inr p) = among_good p
+  among_by (inr (inl p)) = among_good p
+  among_by (inr (inr i)) = absurd (let bad : Segments x.regions ≡ Directories (length old) i.is.tiff = sym x.segments ∙ ap (λ (k : Kept). k.container) i.is.is in cc bad)
 
 -- A JPEG file is relocated with the tree in two texts.
 module _ (need : Need) (old : List ℕ) (kept : Kept) (e : Edited) (plan : Plan) (loaded : IsLoaded need (Some old) (Ok kept)) (may : MayPlan e.new e.hints)
@@ -155,6 +161,7 @@ module _ (need : Need) (old : List ℕ) (kept : Kept) (e : Edited) (plan : Plan)
   stray_in : (container : Container) → container ≡ Segments x.regions → NoStray old container kept.portions e (Relocated (parts_around x.regions kept.portions (segments_text front (Some rest))))
       → HasNoStray old kept.portions x.regions name
   stray_in Text is stray = absurd (cc is)
+  stray_in (Directories size tiff) is stray = absurd (cc is)
   stray_in (Segments regions) is stray =
       let same : regions ≡ x.regions = (let h : Segments regions ≡ Segments x.regions = is in cc) in
       subst (λ (rs : List Region). HasNoStray old kept.portions rs name) same (stray x.count x.long x.split)
@@ -192,7 +199,8 @@ module _ (need : Need) (old : List ℕ) (kept : Kept) (e : Edited) (plan : Plan)
 
   both_by : LoadedAs need old kept → GoodUnstrayed kept old e plan
   both_by (inl s) = absurd (let bad : Segments x.regions ≡ Text = sym x.segments ∙ ap (λ (k : Kept). k.container) s.is in cc bad)
-  both_by (inr p) = both_good p
+  both_by (inr (inl p)) = both_good p
+  both_by (inr (inr i)) = absurd (let bad : Segments x.regions ≡ Directories (length old) i.is.tiff = sym x.segments ∙ ap (λ (k : Kept). k.container) i.is.is in cc bad)
 
 pub file_written : FileIsWritten
 file_written need old kept joined patch e plan loaded planned holds may = by_case (planned_cases kept joined patch e plan planned)

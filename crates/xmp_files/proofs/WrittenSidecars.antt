@@ -27,6 +27,7 @@ use Rattle.xmp_files.specs.Keeping.{Kept, sidecar}
 use Rattle.xmp_files.specs.Loading.{known, kind_of_file, IsKept, IsLoaded}
 use Rattle.xmp_files.specs.Meanings.{Means, Opens}
 use Rattle.xmp_files.specs.Opening.{IsOpened, HoldsTree}
+use Rattle.xmp_files.proofs.Loads.{known_as}
 
 -- what the text means, as reading gives it
 abbrev pub meant : (text : List ℕ) (declared : List Hint) (t : Parts) (note : Option (List ℕ)) → TextMeans text declared t note → Meaning
@@ -48,7 +49,7 @@ holds_packet bytes declared t note h kind short =
     let opened : Opened = record { meaning = meaning; joined = false } in
     let there : kind_of_file (Some bytes) ≡ Ok Sidecar =
     ap (λ (b : Bool). followed (cond b (Err (over_limit (length bytes))) (Ok bytes)) known) (le-ltb file_limit (length bytes) (omega (arith, short)))
-    ∙ ap (λ (k : Option Kind). ok_or k not_known) kind in
+    ∙ known_as bytes Sidecar kind refl in
     let within_limit : Ok kept ≡ cond (nat_lt packet_limit (length bytes)) (Err (over_packet (length bytes))) (Ok kept) =
     ap (λ (b : Bool). cond b (Err (over_packet (length bytes))) (Ok kept)) (sym (le-ltb packet_limit (length bytes) short)) in
     let is_loaded : IsLoaded Packet (Some bytes) (Ok kept) =

@@ -3,7 +3,7 @@ use Rattle.std.specs.Prelude.{ℕ}
 use Rattle.xmp_values.specs.Stops.{fault_at}
 use Rattle.xmp_values.specs.declared.faults.Fault.{Fault}
 use Rattle.xmp_values.specs.declared.faults.Part.TheVariants.{File, Main, Extended}
-use Rattle.xmp_values.specs.declared.rules.Rule.TheVariants.{NoFile, FileLimit, NotKnown, NotBuilt, XmpLimit, Gap}
+use Rattle.xmp_values.specs.declared.rules.Rule.TheVariants.{NoFile, FileLimit, NotKnown, BigTiff, NotBuilt, XmpLimit, Gap}
 
 -- FILE isn't there
 abbrev pub no_file : Fault
@@ -20,6 +20,10 @@ over_limit size = record { rule = FileLimit; place = record { part = File; at = 
 -- FILE is of no kind
 abbrev pub not_known : Fault
 not_known = fault_at NotKnown File 0
+
+-- a BigTIFF file whose offsets don't have 8 bytes
+abbrev pub short_offsets : Fault
+short_offsets = fault_at BigTiff File 0
 
 -- a form that isn't built yet
 abbrev pub not_built : Fault

@@ -1,8 +1,11 @@
 -- What is kept of a file.
-use Rattle.std.specs.Prelude.{ℕ, List, [], length, Option, None, Some}
+use Rattle.std.specs.Prelude.{ℕ, List, [], length, if◌then◌else◌, Option, None, Some}
 use Rattle.jpeg_regions.specs.Jpeg.{Region}
+use Rattle.tiff_dirs.specs.declared.layout.Layout.{Layout}
+use Rattle.tiff_dirs.specs.Types.{is_wide}
+use Rattle.tiff_dirs.specs.Tiff.{Tiff}
 use Rattle.xmp_files.specs.declared.kinds.Kind.{Kind}
-use Rattle.xmp_files.specs.declared.kinds.Kind.TheVariants.{Jpeg, Sidecar}
+use Rattle.xmp_files.specs.declared.kinds.Kind.TheVariants.{Jpeg, Tiff as Classic, BigTiff, Sidecar}
 use Rattle.xmp_files.specs.declared.held.Need.{Need}
 use Rattle.xmp_files.specs.declared.held.Extended.{Extended}
 use Rattle.xmp_base.specs.declared.file_span.FileSpan.{FileSpan}
@@ -18,16 +21,24 @@ pub record Block : Type 0 where
   pub size : ℕ
   pub bytes : Option (List ℕ)
 
--- How a file is made up. Of the containers that are built, a sidecar is nothing but its packet, and a JPEG file is its
--- regions; the directories of a TIFF file are a further case.
+-- How a file is made up: a sidecar is nothing but its packet, a JPEG file is its regions, and a TIFF or BigTIFF file of so many
+-- bytes has directories.
 pub data Container : Type 0 where
   Text : Container
   Segments : (regions : List Region) → Container
+  Directories : (size : ℕ) → (tiff : Tiff) → Container
 
 -- the regions of a JPEG file
 abbrev pub regions_in : Container → Option (List Region)
 regions_in Text = None
 regions_in (Segments regions) = Some regions
+regions_in (Directories size tiff) = None
+
+-- the directories of a TIFF file
+abbrev pub directories_in : Container → Option Tiff
+directories_in Text = None
+directories_in (Segments regions) = None
+directories_in (Directories size tiff) = Some tiff
 
 pub record Kept : Type 0 where
   -- what was asked for
@@ -68,5 +79,22 @@ photograph need size regions packet portions extended = record {
   container = Segments regions;
   portions = portions;
   extended = extended;
+  blocks = [];
+}
+
+-- the two layouts of directories are two kinds
+abbrev pub kind_by : Layout → Kind
+kind_by layout = if is_wide layout then BigTiff else Classic
+
+-- of a TIFF or BigTIFF file of so many bytes
+abbrev pub image : Need → ℕ → Tiff → Option Piece → Kept
+image need size tiff packet = record {
+  need = need;
+  kind = kind_by tiff.layout;
+  size = size;
+  payload = packet;
+  container = Directories size tiff;
+  portions = [];
+  extended = None;
   blocks = [];
 }

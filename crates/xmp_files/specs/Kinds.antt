@@ -20,6 +20,11 @@ is_tiff head = begins head (codes "II" ++ 0x2A ∷ 0x00 ∷ []) || begins head (
 abbrev pub is_big_tiff : List ℕ → Bool
 is_big_tiff head = begins head (codes "II" ++ 0x2B ∷ 0x00 ∷ []) || begins head (codes "MM" ++ 0x00 ∷ 0x2B ∷ [])
 
+-- a BigTIFF file that says next that its offsets have 8 bytes, and after it that 2 zero bytes follow
+abbrev pub has_long_offsets : List ℕ → Bool
+has_long_offsets head =
+    begins head (codes "II" ++ 0x2B ∷ 0x00 ∷ 0x08 ∷ 0x00 ∷ 0x00 ∷ 0x00 ∷ []) || begins head (codes "MM" ++ 0x00 ∷ 0x2B ∷ 0x00 ∷ 0x08 ∷ 0x00 ∷ 0x00 ∷ [])
+
 -- a RIFF file whose form is WebP: the form stands after the file's size
 abbrev pub is_webp : List ℕ → Bool
 is_webp head = begins head (codes "RIFF") && begins (drop 8 head) (codes "WEBP")

@@ -5,6 +5,7 @@ pub mod Keeping
 pub mod Helds
 pub mod Meanings
 pub mod Photographs
+pub mod Images
 pub mod Loading
 pub mod Sparing
 pub mod Opening

@@ -1,15 +1,16 @@
 -- What loading a file does to a desk, and what it answers.
-use Rattle.std.specs.Prelude.{◌≡◌, ◌≢◌, ◌⊎◌, ℕ, ◌+◌, ◌≤◌, ◌<◌, List, [], ◌∷◌, ◌++◌, length, map, min, All, IfOk, IsOk, MatchResult, Option, Some, None, Ok, Err}
+use Rattle.std.specs.Prelude.{◌≡◌, ◌≢◌, ◌⊎◌, ℕ, Bool, true, false, ◌+◌, ◌≤◌, ◌<◌, List, [], ◌∷◌, ◌++◌, length, map, min, All, IfOk, IsOk, IsTrue, Option, Some, None, Ok, Err}
 use Rattle.std.specs.declared.result.Result.{Result}
 use Rattle.std.specs.FinMap.{get}
 use Rattle.xmp_base.specs.Device.{DeskState, Moved, Told, Rose, bytes_of, len_of, OthersKeep}
-use Rattle.xmp_base.specs.Whole.{ReadSome}
+use Rattle.xmp_base.specs.Whole.{ReadSome, ReadsOf}
 use Rattle.xmp_base.specs.Windows.{MovesInside, ReadInside}
-use Rattle.xmp_base.specs.declared.device.Failed.{Failed}
 use Rattle.xmp_values.specs.declared.faults.Fault.{Fault}
 use Rattle.xmp_values.specs.declared.rules.Rule.{Rule}
-use Rattle.xmp_values.specs.declared.rules.Rule.TheVariants.{FileLimit, NotKnown, NotBuilt, XmpLimit}
+use Rattle.xmp_values.specs.declared.rules.Rule.TheVariants.{FileLimit, NotKnown, BigTiff, NotBuilt, XmpLimit}
 use Rattle.xmp_values.specs.Stops.{fault_at}
+use Rattle.tiff_dirs.specs.declared.stop.WalkStop.{WalkStop}
+use Rattle.tiff_dirs.specs.declared.stop.WalkStop.TheVariants as walks
 use Rattle.xmp_values.specs.declared.faults.Part.TheVariants.{File}
 use Rattle.jpeg_regions.specs.Cutting.{Tiles}
 use Rattle.jpeg_regions.specs.Jpeg.{FaultIn, portion_payloads}
@@ -25,12 +26,12 @@ use Rattle.jpeg_extended.specs.FromDesk.{named_at, portions_at, head_range, AreP
 use Rattle.xmp_files.specs.declared.held.Need.{Need}
 use Rattle.xmp_files.specs.declared.held.Extended.{Extended}
 use Rattle.xmp_files.specs.declared.held.ExtendedText.{ExtendedText}
-use Rattle.xmp_files.specs.Faults.{no_file, file_limit, over_limit, not_known, not_built, packet_limit, over_packet}
-use Rattle.xmp_files.specs.Kinds.{kind_of}
+use Rattle.xmp_files.specs.Faults.{no_file, file_limit, over_limit, not_known, short_offsets, not_built, packet_limit, over_packet}
 use Rattle.xmp_files.specs.Stages.{Followed}
-use Rattle.xmp_files.specs.Keeping.{Piece, Container, Text, Segments, Kept}
+use Rattle.xmp_files.specs.Keeping.{Piece, Container, Text, Segments, Directories, Kept}
 use Rattle.xmp_files.specs.Meanings.{IsNoteOf}
 use Rattle.xmp_files.specs.Photographs.{IsExtended, IsCut}
+use Rattle.xmp_files.specs.Images.{is_walk_rule, image_fault}
 use Rattle.xmp_files.specs.Loading.{known, kind_of_file, IsKept, IsLoaded}
 use Rattle.xmp_files.specs.Sparing.{Spared}
 
@@ -42,27 +43,46 @@ LoadGives (Err (Refused fault)) IsStep = IsStep (Err fault)
 LoadGives (Err Device) IsStep = Unit {0}
 LoadGives (Err Memory) IsStep = Unit {0}
 
--- The refusals, by their rules, of a file of a length. A payload is no longer than its file. All other rules are those of a JPEG
--- file's segments.
+-- a refusal of a JPEG file's segments
+abbrev pub IsCutRefusal : ℕ → Rule → Fault → Type 0
+IsCutRefusal size rule fault = FaultIn size fault.place.at rule × (fault ≡ fault_at rule File fault.place.at)
+
+-- a refusal of a TIFF file's directories
+abbrev pub IsWalkRefusal : Rule → Fault → Type 0
+IsWalkRefusal rule fault = IsTrue (is_walk_rule rule) × (fault ≡ image_fault rule fault.place.at fault.x fault.y)
+
+-- The refusals, by their rules, of a file of a length. A payload is no longer than its file. All other rules are those of segments and
+-- of directories.
 abbrev pub IsLoadRefusal : ℕ → Rule → Fault → Type 0
 IsLoadRefusal size FileLimit fault = (file_limit < size) × (fault ≡ over_limit size)
 IsLoadRefusal size NotKnown fault = fault ≡ not_known
+IsLoadRefusal size BigTiff fault = fault ≡ short_offsets
 IsLoadRefusal size NotBuilt fault = fault ≡ not_built
 IsLoadRefusal size XmpLimit fault = (packet_limit < fault.x) × (fault.x ≤ size) × (fault ≡ over_packet fault.x)
-IsLoadRefusal size rule fault = FaultIn size fault.place.at rule × (fault ≡ fault_at rule File fault.place.at)
+IsLoadRefusal size rule fault = IsCutRefusal size rule fault ⊎ IsWalkRefusal rule fault
 
 -- Of a file that is refused for its length no byte is read, and of one that is refused by its kind the first 16. What else is read
 -- of a file is said by what is spared.
 abbrev pub read_before : Rule → ℕ → ℕ
 read_before FileLimit size = 0
 read_before NotKnown size = 16
+read_before BigTiff size = 16
 read_before NotBuilt size = 16
 read_before rule size = size
+
+-- the refusals of a file whose directories were read
+abbrev pub follows_walk : Rule → Bool
+follows_walk XmpLimit = true
+follows_walk rule = is_walk_rule rule
+
+-- no more was read than that; directories are read wherever the file says that they stand
+abbrev pub RefusalReads : Rule → ℕ → List ℕ → Option (List Moved) → Option (List Moved) → Type 0
+RefusalReads rule size name old new = MovesInside name 0 (read_before rule size) old new ⊎ (IsTrue (follows_walk rule) × ReadsOf name old new)
 
 -- a refusal is one of those above, with the file's length, and no more is read than that
 pub record Refusal (s t : DeskState) (name : List ℕ) (fault : Fault) : Type 0 where
   pub numbers : IsLoadRefusal (len_of t name) fault.rule fault
-  pub reads : MovesInside name 0 (read_before fault.rule (len_of t name)) s.reads t.reads
+  pub reads : RefusalReads fault.rule (len_of t name) name s.reads t.reads
 
 abbrev pub Refuses : DeskState → DeskState → List ℕ → Result Kept FileStop → Type 0
 Refuses s t name result = (fault : Fault) → result ≡ Err (Refused fault) → Refusal s t name fault
@@ -72,6 +92,16 @@ abbrev pub cut_stop : DeviceStop → FileStop
 cut_stop (cuts.Fault rule place) = Refused (fault_at rule File place)
 cut_stop cuts.Device = Device
 cut_stop cuts.Memory = Memory
+
+-- Why a file that isn't walked is refused. A walk tells no other rules than those of directories.
+abbrev pub walked_stop : Bool → Fault → FileStop
+walked_stop true fault = Refused fault
+walked_stop false fault = Memory
+
+abbrev pub walk_stop : WalkStop → FileStop
+walk_stop (walks.Fault rule place x y) = walked_stop (is_walk_rule rule) (image_fault rule place x y)
+walk_stop walks.Device = Device
+walk_stop walks.Memory = Memory
 
 -- why portions weren't found or read: the device failed, or memory ran out
 abbrev pub join_stop : JoinStop → FileStop
@@ -120,6 +150,7 @@ PayloadLies size (Some payload) = (payload.at + length payload.bytes ≤ size) �
 abbrev pub ContainerLies : ℕ → Container → List FileSpan → Type 0
 ContainerLies size Text portions = Unit {0}
 ContainerLies size (Segments regions) portions = Tiles 2 size regions × ArePicked portions (portion_payloads regions)
+ContainerLies size (Directories len tiff) portions = len ≡ size
 
 -- what is kept has the length of the file, in which its payload and its regions lie
 pub record IsOfSize (size : ℕ) (kept : Kept) : Type 0 where
@@ -135,15 +166,27 @@ pub record KeptCall (need : Need) (s t : DeskState) (name : List ℕ) (size : �
   pub held : IfOk result (IsOfSize size)
   pub fails : FailsOnly s t result
 
+-- the kind of a file, by its first bytes; or it has none that is read; or the device failed
+abbrev pub KindAnswer : DeskState → DeskState → List ℕ → Result Kind FileStop → Type 0
+KindAnswer s t name (Ok kind) = Told s.files (λ files. known (bytes_of files name) ≡ Ok kind)
+KindAnswer s t name (Err (Refused fault)) = Told s.files (λ files. known (bytes_of files name) ≡ Err fault) × ((fault ≡ not_known) ⊎ (fault ≡ short_offsets))
+KindAnswer s t name (Err Device) = Rose s.faults t.faults
+KindAnswer s t name (Err Absent) = ⊥
+KindAnswer s t name (Err Memory) = ⊥
+
 -- the kind of a known file of this length was read from its first bytes
-pub record KindCall (s t : DeskState) (name : List ℕ) (size : ℕ) (result : Result (Option Kind) Failed) : Type 0 where
+pub record KindCall (s t : DeskState) (name : List ℕ) (size : ℕ) (result : Result Kind FileStop) : Type 0 where
   pub calls : ReadInside s t name 0 (min size 16)
-  pub kind : IfOk result (λ kind. Told s.files (λ files. kind ≡ kind_of (bytes_of files name)))
-  pub failed : MatchResult result (λ _. Unit {0}) (λ _. Rose s.faults t.faults)
+  pub answer : KindAnswer s t name result
+
+-- some calls that read this name, of known length
+pub record ReadKnown (s t : DeskState) (name : List ℕ) : Type 0 where
+  pub some : ReadSome s t name
+  pub lens : t.lens ≡ s.lens
 
 -- a known file of this length was loaded
 pub record SizedCall (need : Need) (s t : DeskState) (name : List ℕ) (size : ℕ) (result : Result Kept FileStop) : Type 0 where
-  pub calls : ReadInside s t name 0 size
+  pub calls : ReadKnown s t name
   pub told : Told s.files (λ files. LoadGives result (Followed (known (bytes_of files name)) (IsKept need (bytes_of files name))))
   pub memory : Told s.files (λ files. result ≡ Err Memory → IsOk (known (bytes_of files name)))
   pub there : result ≡ Err Absent → ⊥

@@ -7,7 +7,8 @@ use Rattle.xmp_base.specs.declared.file_span.FileSpan.{FileSpan}
 use Rattle.jpeg_regions.specs.Jpeg.{Region, Jpeg}
 use Rattle.jpeg_extended.specs.FromDesk.{payload_at}
 use Rattle.jpeg_relocation.specs.Relocation.{part_of, kept}
-use Rattle.xmp_files.specs.Keeping.{Piece, Container, Text, Segments, Kept}
+use Rattle.tiff_dirs.specs.Tiff.{Tiff}
+use Rattle.xmp_files.specs.Keeping.{Piece, Container, Text, Segments, Directories, Kept}
 
 -- What a command makes of a file: the tree that was there, the new one with all hints, and the 16 bytes of the stored digest
 -- where it is renewed. A script gives them, or the sources of reconciling.
@@ -72,10 +73,15 @@ pub record KeepsRegions (old : List ℕ) (regions : List Region) (joined : List 
   pub added : List FileSpan
   pub same : map (part_of new) (kept added list) ≡ map (part_of old) (kept joined regions)
 
+-- the pictures of a TIFF file have their old places and bytes
+abbrev pub KeepsRanges : List ℕ → Tiff → List ℕ → Type 0
+KeepsRanges old tiff new = All (λ r. payload_at new r ≡ payload_at old r) tiff.pictures
+
 -- what a relocation leaves of pictures and of what isn't metadata: a sidecar has neither
 abbrev pub KeepsPictures : Container → List FileSpan → List ℕ → List ℕ → Type 0
 KeepsPictures Text joined old new = Unit {0}
 KeepsPictures (Segments regions) joined old new = KeepsRegions old regions joined new
+KeepsPictures (Directories size tiff) joined old new = KeepsRanges old tiff new
 
 -- what a plan leaves of a file
 abbrev pub Frame : Kept → Plan → List ℕ → List ℕ → Type 0

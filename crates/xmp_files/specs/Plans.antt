@@ -22,8 +22,8 @@ use Rattle.xmp_write.specs.Text.{canonical_text}
 use Rattle.xmp_write.specs.Splits.{front_form, rest_form, IsSplit, FitsNever}
 use Rattle.xmp_write.specs.WrittenPackets.{least_len, canonical_packet}
 use Rattle.round_trip.specs.Law.{MayWrite}
-use Rattle.xmp_files.specs.Faults.{file_limit, packet_limit, over_packet, over_extended}
-use Rattle.xmp_files.specs.Keeping.{Piece, Container, Text, Segments, Kept}
+use Rattle.xmp_files.specs.Faults.{file_limit, packet_limit, over_packet, over_extended, not_built}
+use Rattle.xmp_files.specs.Keeping.{Piece, Container, Text, Segments, Directories, Kept}
 use Rattle.xmp_files.specs.Planning.{Edited, Part, Old, New, parts_len, Plan, Same, InPlace, Relocated}
 
 -- every property, and no note
@@ -81,6 +81,7 @@ needs_relocation least room = record { rule = NeedsRelocation; place = record { 
 abbrev pub digest_pieces : Container → Option (List ℕ) → List Piece
 digest_pieces Text digest = []
 digest_pieces (Segments regions) digest = []
+digest_pieces (Directories size tiff) digest = []
 
 -- what is decided without relocation: the new text is too long, it fits, or it must fit
 abbrev pub unmoved : Option Piece → Container → Bool → Bool → Edited → Option (Result Plan Fault)
@@ -157,10 +158,12 @@ IsRelocated regions joined e step =
     ((least_of e ≤ main_limit) × (step ≡ put_among regions joined (segments_text (packet_of e (segment_padded (least_of e))) None)))
     ⊎ ((main_limit < least_of e) × IsDivided regions joined e.new e.hints step)
 
--- The file that has the new packet in another place, or the first fault. A sidecar is nothing but its packet.
+-- The file that has the new packet in another place, or the first fault. A sidecar is nothing but its packet. A TIFF file isn't
+-- relocated yet.
 abbrev pub IsRelocation : Container → List FileSpan → Edited → Result Plan Fault → Type 0
 IsRelocation Text joined e step = step ≡ Ok (Relocated (New (packet_of e (least_of e + padding)) ∷ []))
 IsRelocation (Segments regions) joined e step = IsRelocated regions joined e step
+IsRelocation (Directories size tiff) joined e step = step ≡ Err not_built
 
 abbrev pub OrRelocation : Option (Result Plan Fault) → Container → List FileSpan → Edited → Result Plan Fault → Type 0
 OrRelocation (Some known) container portions e step = step ≡ known
@@ -201,6 +204,7 @@ pub record MayPlan (t : Parts) (hints : List Hint) : Type 0 where
 abbrev pub Apart : Container → Type 0
 Apart Text = Unit {0}
 Apart (Segments regions) = Unit {0}
+Apart (Directories size tiff) = Unit {0}
 
 abbrev pub NoStrayIn : List ℕ → List Region → List FileSpan → Edited → Plan → Type 0
 NoStrayIn file regions joined e Same = Unit {0}
@@ -211,3 +215,4 @@ NoStrayIn file regions joined e (Relocated parts) =
 abbrev pub NoStray : List ℕ → Container → List FileSpan → Edited → Plan → Type 0
 NoStray file Text joined e plan = Unit {0}
 NoStray file (Segments regions) joined e plan = NoStrayIn file regions joined e plan
+NoStray file (Directories size tiff) joined e plan = Unit {0}

@@ -1,6 +1,6 @@
 //! The refusals of a file.
 ghost use Rattle.std.specs.Prelude.{◌≡◌};
-ghost use Rattle.xmp_files.specs.Faults.{gap_at, over_extended, no_file, over_limit, not_known, not_built, over_packet};
+ghost use Rattle.xmp_files.specs.Faults.{gap_at, over_extended, no_file, over_limit, not_known, short_offsets, not_built, over_packet};
 
 use xmp_values::{Fault, Part, Rule};
 
@@ -33,6 +33,13 @@ pub fn not_known() -> Fault
     ensures { result ≡ not_known }
 {
     Fault::at(Rule::NotKnown, Part::File, 0)
+}
+
+/// A BigTIFF file whose offsets don't have 8 bytes.
+pub fn short_offsets() -> Fault
+    ensures { result ≡ short_offsets }
+{
+    Fault::at(Rule::BigTiff, Part::File, 0)
 }
 
 /// A form that isn't built yet.

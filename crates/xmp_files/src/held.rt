@@ -3,13 +3,14 @@ ghost use Rattle.std.specs.Prelude.{◌≡◌};
 ghost use Rattle.std.specs.Option.{option_copied, option_map};
 ghost use Rattle.jpeg_regions.specs.Jpeg.{Region};
 ghost use Rattle.xmp_packets.specs.Packets.{packet_text};
-ghost use Rattle.xmp_files.specs.Keeping.{sidecar, photograph, regions_in};
+ghost use Rattle.xmp_files.specs.Keeping.{sidecar, photograph, image, regions_in, directories_in};
 ghost use Rattle.xmp_files.specs.Helds.{piece_of};
 ghost use Rattle.xmp_files.specs.Plans.{place_of, room_of};
 ghost use Rattle.xmp_files.specs.Planneds.{bytes_in};
 
 use jpeg_regions::Regions;
 use std::marker::Model;
+use tiff_dirs::Dirs;
 use xmp_base::FileSpan;
 use xmp_packets::Packet;
 use xmp_values::Bytes;
@@ -23,7 +24,7 @@ pub enum Need {
     Blocks,
 }
 
-/// The main packet of a JPEG file, and the place where it stands.
+/// The main packet of a JPEG or TIFF file, and the place where it stands.
 #[derive(Debug, Drop)]
 pub struct MainPacket {
     pub at: u64,
@@ -57,6 +58,8 @@ pub enum Contents {
     Sidecar(Bytes),
     /// The length of a JPEG file, its regions, its main packet, and its extended text.
     Photograph(u64, Regions, Option<MainPacket>, ExtendedText),
+    /// The length of a TIFF or BigTIFF file, its directories, and its main packet.
+    Image(u64, Dirs, Option<MainPacket>),
 }
 
 /// What is kept of a file. Contracts see its kind, its length, its payload with its place, how it
@@ -103,23 +106,43 @@ impl Held {
         }
     }
 
+    /// What is kept of a TIFF or BigTIFF file of `size` bytes.
+    pub(crate) fn image(need: Need, size: u64, dirs: Dirs, packet: Option<MainPacket>) -> Held
+        ensures { result ≡ image need size dirs (option_map piece_of packet) }
+    {
+        Held {
+            need,
+            contents: Contents::Image(size, dirs, packet),
+        }
+    }
+
     /// What the portions of an extended text give, if there are any.
     pub(crate) fn extended(&self) -> Option<&Extended>
         ensures { option_copied result ≡ self.now.extended }
     {
         match &self.contents {
-            Contents::Sidecar(_) => None,
+            Contents::Sidecar(_) | Contents::Image(..) => None,
             Contents::Photograph(_, _, _, text) => text.joined.as_ref(),
         }
     }
 
-    /// The regions of a JPEG file; none of a sidecar.
+    /// The regions of a JPEG file; none of another.
     pub(crate) fn regions(&self) -> Option<&Regions>
         ensures { option_copied result ≡ regions_in self.now.container }
     {
         match &self.contents {
-            Contents::Sidecar(_) => None,
+            Contents::Sidecar(_) | Contents::Image(..) => None,
             Contents::Photograph(_, regions, _, _) => Some(regions),
+        }
+    }
+
+    /// The directories of a TIFF file; none of another.
+    pub(crate) fn directories(&self) -> Option<&Dirs>
+        ensures { option_copied result ≡ directories_in self.now.container }
+    {
+        match &self.contents {
+            Contents::Sidecar(_) | Contents::Photograph(..) => None,
+            Contents::Image(_, dirs, _) => Some(dirs),
         }
     }
 
@@ -128,7 +151,7 @@ impl Held {
         ensures { result.now ≡ self.now.portions }
     {
         match &self.contents {
-            Contents::Sidecar(_) => &[],
+            Contents::Sidecar(_) | Contents::Image(..) => &[],
             Contents::Photograph(_, _, _, text) => text.portions.as_slice(),
         }
     }
@@ -141,6 +164,8 @@ impl Held {
             Contents::Sidecar(bytes) => Some(bytes.as_slice()),
             Contents::Photograph(_, _, Some(part), _) => Some(part.bytes.as_slice()),
             Contents::Photograph(_, _, None, _) => None,
+            Contents::Image(_, _, Some(part)) => Some(part.bytes.as_slice()),
+            Contents::Image(_, _, None) => None,
         }
     }
 
@@ -150,6 +175,7 @@ impl Held {
     {
         match &self.contents {
             Contents::Photograph(_, _, Some(part), _) => part.at,
+            Contents::Image(_, _, Some(part)) => part.at,
             _ => 0,
         }
     }
@@ -162,6 +188,8 @@ impl Held {
             Contents::Sidecar(bytes) => bytes.len(),
             Contents::Photograph(_, _, Some(part), _) => part.bytes.len(),
             Contents::Photograph(_, _, None, _) => 0,
+            Contents::Image(_, _, Some(part)) => part.bytes.len(),
+            Contents::Image(_, _, None) => 0,
         }
     }
 
@@ -171,7 +199,7 @@ impl Held {
     {
         match &self.contents {
             Contents::Sidecar(bytes) => bytes.len() as u64,
-            Contents::Photograph(size, ..) => *size,
+            Contents::Photograph(size, ..) | Contents::Image(size, ..) => *size,
         }
     }
 
@@ -183,6 +211,8 @@ impl Held {
             Contents::Sidecar(bytes) => bytes.as_slice(),
             Contents::Photograph(_, _, Some(part), _) => part.bytes.as_slice(),
             Contents::Photograph(_, _, None, _) => &[],
+            Contents::Image(_, _, Some(part)) => part.bytes.as_slice(),
+            Contents::Image(_, _, None) => &[],
         }
     }
 

@@ -1,6 +1,6 @@
 //! Which kind a file is.
 ghost use Rattle.std.specs.Prelude.{◌≡◌, drop};
-ghost use Rattle.xmp_files.specs.Kinds.{kind_of, kind_of_head, is_tiff, is_big_tiff, is_webp, is_psd, is_sidecar, is_utf16, is_markup, without_mark};
+ghost use Rattle.xmp_files.specs.Kinds.{kind_of, kind_of_head, is_tiff, is_big_tiff, has_long_offsets, is_webp, is_psd, is_sidecar, is_utf16, is_markup, without_mark};
 
 use xmp_values::leading_blanks;
 
@@ -62,6 +62,14 @@ fn is_big_tiff(head: &[u8]) -> bool
     ensures { result ≡ is_big_tiff head.now }
 {
     head.starts_with(b"II\x2b\x00") || head.starts_with(b"MM\x00\x2b")
+}
+
+/// A BigTIFF file whose offsets have 8 bytes, as it says after its number.
+pub fn has_long_offsets(head: &[u8]) -> bool
+    ensures { result ≡ has_long_offsets head.now }
+{
+    head.starts_with(b"II\x2b\x00\x08\x00\x00\x00")
+        || head.starts_with(b"MM\x00\x2b\x00\x08\x00\x00")
 }
 
 /// A RIFF file whose form, after its size, is WebP.

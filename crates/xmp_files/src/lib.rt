@@ -5,7 +5,7 @@
 //! or the first fault of its XML and RDF, and for an edited tree the plan of the new file or the first
 //! fault of its limits; `emit` writes that file, and it is read back as the tree. It reads no byte of a
 //! file that is over its limit, and none of a picture. It stands on the devices of `xmp_base`, the
-//! packets of `xmp_packets`, the documents of `xmp_xml`, the meanings of `xmp_rdf`, the writer
+//! packets of `xmp_packets`, the directories of `tiff_dirs`, the documents of `xmp_xml`, the meanings of `xmp_rdf`, the writer
 //! `xmp_write` and the law of `round_trip`.
 #![tactic(auto)]
 
@@ -13,6 +13,7 @@ mod dividing;
 mod emitting;
 mod faults;
 mod held;
+mod images;
 mod kinds;
 mod laws;
 mod loading;

@@ -10,7 +10,7 @@ ghost use Rattle.xmp_files.specs.Patching.{new_payload};
 ghost use Rattle.std.specs.Option.{option_copied};
 
 use crate::dividing::with_both;
-use crate::faults::{PACKET_LIMIT, over_packet};
+use crate::faults::{PACKET_LIMIT, not_built, over_packet};
 use crate::held::Held;
 use crate::opening::Opened;
 use crate::parts::{NewFile, whole_file};
@@ -229,6 +229,9 @@ fn change_of(
     }
     if patch {
         return Err(FaultStop::Fault(needs_relocation(least, held.payload_len())));
+    }
+    if held.directories().is_some() {
+        return Err(FaultStop::Fault(not_built()));
     }
     let Some(regions) = held.regions() else {
         let bytes = packet(alloc, tree, &prefixes, &form, padded as usize)?;

@@ -21,6 +21,8 @@ mod extended;
 mod failing;
 mod files;
 #[cfg(test)]
+mod images;
+#[cfg(test)]
 mod kinds;
 #[cfg(test)]
 mod loading;

@@ -68,7 +68,9 @@ fn files_are_refused(rt: HostRuntime) -> Result<(), Fail> {
         not_known
     );
     let not_built = refused(Rule::NotBuilt, Part::File, 0, 0);
-    assert_eq!(rt; stop_of(alloc, b"MM\x00\x2a", 0)?, not_built);
+    assert_eq!(rt; stop_of(alloc, b"RIFF\0\0\0\0WEBP", 0)?, not_built);
+    let short_header = refused(Rule::ShortHeader, Part::File, 0, 0);
+    assert_eq!(rt; stop_of(alloc, b"MM\x00\x2a", 0)?, short_header);
     let mut desk = MemoryDesk::new(alloc);
     assert_eq!(rt;
         load(alloc, &mut desk, "a.xmp", Need::Packet).err(),

@@ -1,5 +1,8 @@
-use Rattle.xmp_files.proofs.Loads.{load_after}
+use Rattle.xmp_files.proofs.Loads.{load_after, kind_stopped}
 use Rattle.xmp_files.proofs.loading.load_sized.Goals as goal
 
-pub returns-in-Ok-Some : goal.returns-in-Ok-Some
-returns-in-Ok-Some g c = record { call = load_after c.args.need _ _ _ _ _ _ _ c.in-Ok-Some.ensures.call c.requires.len c.load_container.ensures.call }
+pub returns-in-Ok : goal.returns-in-Ok
+returns-in-Ok g c = record { call = load_after c.args.need _ _ _ _ _ _ _ c.in-Ok.ensures.call c.requires.len c.load_container.ensures.call }
+
+pub returns-in-Err : goal.returns-in-Err
+returns-in-Err g c = record { call = kind_stopped c.args.need _ _ _ _ (record { len = c.requires.len; whole = c.requires.told }) _ c.in-Err.ensures.call }

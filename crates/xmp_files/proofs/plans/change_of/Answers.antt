@@ -1,6 +1,6 @@
 use Rattle.xmp_files.specs.Planning.{Edited}
 use Rattle.std.proofs.Common.{ℕ, List, length, None, sym, ap, ◌∙◌, subst, arith}
-use Rattle.std.specs.Prelude.{IfOk}
+use Rattle.std.specs.Prelude.{IfOk, is_some}
 use Rattle.std.specs.Option.{option_copied}
 use Rattle.xmp_base.specs.declared.file_span.FileSpan.{FileSpan}
 use Rattle.jpeg_regions.specs.Jpeg.{portion_payloads}
@@ -12,7 +12,7 @@ use Rattle.xmp_files.specs.Plans.{segments_text, segment_padded, MayPlan}
 use Rattle.xmp_files.proofs.Relocations.{container_lies, any_ok}
 use Rattle.xmp_tree.specs.Wf.{Wf}
 use Rattle.xmp_files.proofs.MayBeWritten.{may_be_written}
-use Rattle.xmp_files.proofs.Placing.{inside_moved, anew_moved, divided_answer, among_answer, least_exact}
+use Rattle.xmp_files.proofs.Placing.{inside_moved, copied_some, anew_moved, image_moved, divided_answer, among_answer, least_exact}
 use Rattle.xmp_files.specs.Planneds.{plan_of, AmongAnswer, DivideAnswer, ExchangeLies}
 use Rattle.xmp_files.proofs.plans.change_of.Goals as goal
 
@@ -29,12 +29,21 @@ returns-then-fits-clause-written c =
     c.whole-form.ensures c.in_ok-prefixes.ensures (omega (arith, c.count_of-count.ensures.sum, c.count_of-count.type_inv, ap length c.as_slice.ensures.hints, ap length c.as_slice-2.ensures))
     (omega (arith, c.count_of-count.ensures.few, ap length c.as_slice.ensures.hints))
 
+pub returns-then-is_some-clause-step : goal.returns-then-is_some-clause-step
+returns-then-is_some-clause-step c old =
+    let e : Edited = record { old = old; new = c.args.tree.now; hints = c.args.hints.now; digest = None } in
+    image_moved c.args.held.now.payload c.args.held.now.container c.args.held.now.portions c.args.joined c.args.patch e c.in_ok-prefixes.prefixes c.whole-form.result c.least_len-least.result
+    c.saturating_add-padded.result c.in_ok-prefixes.ensures c.whole-form.ensures c.least_len-least.ensures c.saturating_add-padded.ensures
+    c.if-padded-gt-PACKET_LIMIT.false (sym c.fits.ensures ∙ c.if-fits.false) c.if-patch.false c.not_built-then-is_some.result
+    (ap is_some (sym c.directories.ensures) ∙ copied_some c.directories.result ∙ sym c.is_some.ensures ∙ c.if-is_some.true) c.not_built-then-is_some.ensures
+
 pub returns-in_default-clause-step : goal.returns-in_default-clause-step
 returns-in_default-clause-step c old =
     let e : Edited = record { old = old; new = c.args.tree.now; hints = c.args.hints.now; digest = None } in
     anew_moved c.args.held.now.payload c.args.held.now.container c.args.held.now.portions c.args.joined c.args.patch e c.in_ok-prefixes.prefixes c.whole-form.result c.least_len-least.result
     c.saturating_add-padded.result c.in_ok-prefixes.ensures c.whole-form.ensures c.least_len-least.ensures c.saturating_add-padded.ensures
-    c.if-padded-gt-PACKET_LIMIT.false (sym c.fits.ensures ∙ c.if-fits.false) c.if-patch.false _ c.in_ok-bytes.bytes (sym c.regions.ensures ∙ ap option_copied c.in_default.is)
+    c.if-padded-gt-PACKET_LIMIT.false (sym c.fits.ensures ∙ c.if-fits.false) c.if-patch.false _ c.in_ok-bytes.bytes
+    (ap is_some (sym c.directories.ensures) ∙ copied_some c.directories.result ∙ sym c.is_some.ensures ∙ c.if-is_some.false) (sym c.regions.ensures ∙ ap option_copied c.in_default.is)
     (ap (λ (ps : List Part). Relocated ps) c.in_ok-whole_file.ensures.is) c.in_ok-bytes.ensures
 
 pub returns-in_default-clause-written : goal.returns-in_default-clause-written
