@@ -105,10 +105,11 @@ fn broken_directories_are_refused(rt: HostRuntime) -> Result<(), Fail> {
     let alloc = rt.alloc();
     let mut twice = strip(8);
     twice[37] = 8;
+    let none = strip(0);
     let cases: [(&[u8], &str); 5] = [
         (OVERLAP, "refused Overlap file 52 50 4\n"),
         (&twice, "refused DirectoryTwice file 8 0 0\n"),
-        (&strip(0), "refused DirectoryOut file 0 0 0\n"),
+        (&none, "refused DirectoryOut file 0 0 0\n"),
         (b"II\x2B\x00\x08", "refused ShortHeader file 0 0 0\n"),
         (
             b"II\x2B\x00\x04\x00\x00\x00\x00\x00\x00\x00\x00\x00\x00\x00",

@@ -2,7 +2,8 @@ use Rattle.std.proofs.Common.{◌∙◌, ap, Ok}
 use Rattle.std.specs.declared.result.Result.{Result}
 use Rattle.xmp_values.specs.declared.faults.Fault.{Fault}
 use Rattle.xmp_files.specs.declared.kinds.Kind.{Kind}
-use Rattle.xmp_files.specs.declared.kinds.Kind.TheVariants.{Jpeg, Tiff, BigTiff}
+use Rattle.xmp_files.specs.declared.kinds.Kind.TheVariants.{Jpeg, BigTiff}
+use Rattle.xmp_base.specs.Device.{bytes_of}
 use Rattle.xmp_files.proofs.Loads.{known_kind, not_built_kind, unbuilt_end}
 use Rattle.xmp_files.proofs.loading.load_container.Goals as goal
 
@@ -13,4 +14,7 @@ returns-in_default g c = record {
 }
 
 pub load_photograph-requires-clause-kind : goal.load_photograph-requires-clause-kind
-load_photograph-requires-clause-kind g c = λ files told. known_kind _ Jpeg (c.requires.kind files told ∙ ap (λ (k : Kind). let r : Result Kind Fault = Ok k in r) c.in-Jpeg.is)
+load_photograph-requires-clause-kind g c = λ files told. known_kind (bytes_of files c.args.name.now) Jpeg (c.requires.kind files told ∙ ap (λ (k : Kind). let r : Result Kind Fault = Ok k in r) c.in-Jpeg.is)
+
+pub load_image-requires-in-BigTiff-clause-kind : goal.load_image-requires-in-BigTiff-clause-kind
+load_image-requires-in-BigTiff-clause-kind g c = λ files told. (BigTiff, tt, c.requires.kind files told ∙ ap (λ (k : Kind). let r : Result Kind Fault = Ok k in r) c.in-BigTiff.is)

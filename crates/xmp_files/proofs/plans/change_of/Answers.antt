@@ -34,8 +34,8 @@ returns-then-is_some-clause-step c old =
     let e : Edited = record { old = old; new = c.args.tree.now; hints = c.args.hints.now; digest = None } in
     image_moved c.args.held.now.payload c.args.held.now.container c.args.held.now.portions c.args.joined c.args.patch e c.in_ok-prefixes.prefixes c.whole-form.result c.least_len-least.result
     c.saturating_add-padded.result c.in_ok-prefixes.ensures c.whole-form.ensures c.least_len-least.ensures c.saturating_add-padded.ensures
-    c.if-padded-gt-PACKET_LIMIT.false (sym c.fits.ensures ∙ c.if-fits.false) c.if-patch.false c.not_built-then-is_some.result
-    (ap is_some (sym c.directories.ensures) ∙ copied_some c.directories.result ∙ sym c.is_some.ensures ∙ c.if-is_some.true) c.not_built-then-is_some.ensures
+    c.if-padded-gt-PACKET_LIMIT.false (sym c.fits.ensures ∙ c.if-fits.false) c.if-patch.false c.not_built.result
+    (ap is_some (sym c.directories.ensures) ∙ copied_some c.directories.result ∙ sym c.is_some.ensures ∙ c.if-is_some.true) c.not_built.ensures
 
 pub returns-in_default-clause-step : goal.returns-in_default-clause-step
 returns-in_default-clause-step c old =
