@@ -34,13 +34,12 @@ use Rattle.xmp_files.specs.declared.held.Need.{Need}
 use Rattle.xmp_files.specs.declared.held.Need.TheVariants.{Packet}
 use Rattle.xmp_files.specs.declared.opening.Opened.{Opened}
 use Rattle.xmp_files.specs.Faults.{file_limit, over_limit, not_known, short_offsets, packet_limit, over_packet}
-use Rattle.xmp_files.specs.Kinds.{kind_of, is_jpeg, is_tiff, is_big_tiff, is_webp, is_psd, is_sidecar, has_long_offsets, begins}
+use Rattle.xmp_files.specs.Kinds.{kind_of, is_jpeg, is_tiff, is_big_tiff, has_long_offsets, begins}
 use Rattle.xmp_files.specs.Stages.{followed, Followed}
 use Rattle.xmp_files.specs.Keeping.{Piece, Kept, image}
-use Rattle.xmp_files.specs.Meanings.{Means}
 use Rattle.xmp_files.specs.Photographs.{piece_at}
 use Rattle.xmp_files.specs.Images.{HasDirectories, tiff_packet, IsImage}
-use Rattle.xmp_files.specs.Loading.{known, with_offsets, kind_of_file, limited_by, IsKept, IsLoaded}
+use Rattle.xmp_files.specs.Loading.{known, with_offsets, kind_of_file, IsKept, IsLoaded}
 use Rattle.xmp_files.specs.Opening.{IsOpened, HoldsTree}
 use Rattle.xmp_files.proofs.Loads.{known_kind, known_as}
 use Rattle.xmp_files.proofs.WalkedImages.{kind_by, classic_tests, big_tests, IsImageKind, image_told, length_piece}
@@ -187,7 +186,7 @@ module _ (need : Need) (old : List ℕ) (kept : Kept) (x : IsImage need old kept
         ap (take 8) (append_assoc (take payload.at old) now (drop (payload.at + length now) old))
         ∙ take-append-le 8 (take payload.at old) (now ++ drop (payload.at + length now) old) (omega (arith, length-take payload.at old, behind, image_within))
         ∙ take-take 8 payload.at old behind
-      )
+        )
 
     pub kind_now : IsImageKind file
     kind_now = image_kind_same old file front (omega (arith, behind, image_within)) (omega (arith, behind, image_within, image_size)) kind

@@ -2,7 +2,7 @@
 use Rattle.std.proofs.Common.{◌≡◌, ◌∙◌, ℕ, ◌+◌, ◌-◌, ◌<◌, ◌≤◌, min, Bool, cond, List, [], length, take, drop, refl, sym, ap, subst, arith, inl, inr, Ok, Err, Some, None}
 use Rattle.std.specs.declared.option.Option.{Option}
 use Rattle.std.specs.declared.result.Result.{Result}
-use Rattle.std.specs.Option.{option_map, ok_or}
+use Rattle.std.specs.Option.{option_map}
 use Rattle.std.specs.Prelude.{nat_lt}
 use Rattle.std.proofs.lemmas.Bool.{le-ltb}
 use Rattle.std.proofs.lemmas.List.{length-take-le, length-drop, take_all}
@@ -17,7 +17,7 @@ use Rattle.xmp_files.specs.declared.kinds.Kind.{Kind}
 use Rattle.xmp_files.specs.declared.kinds.Kind.TheVariants.{Jpeg}
 use Rattle.xmp_files.specs.declared.held.Need.{Need}
 use Rattle.xmp_files.specs.declared.held.Need.TheVariants.{Packet}
-use Rattle.xmp_files.specs.Faults.{file_limit, over_limit, not_known, packet_limit, over_packet}
+use Rattle.xmp_files.specs.Faults.{file_limit, over_limit, packet_limit, over_packet}
 use Rattle.xmp_files.specs.Kinds.{kind_of}
 use Rattle.xmp_files.specs.Stages.{followed, Followed}
 use Rattle.xmp_files.specs.Keeping.{Piece, Kept, photograph}

@@ -3,7 +3,7 @@ use Rattle.std.proofs.Common.{◌≡◌, ◌≢◌, ℕ, ◌+◌, ◌-◌, ◌<�
 use Rattle.std.specs.declared.option.Option.{Option}
 use Rattle.std.specs.declared.result.Result.{Result}
 use Rattle.std.specs.FinMap.{get}
-use Rattle.std.specs.Option.{option_map, unwrap_or, ok_or}
+use Rattle.std.specs.Option.{option_map, unwrap_or}
 use Rattle.std.specs.Prelude.{IsOk, nat_eq, nat_lt, ◌&&◌, slice_get}
 use Rattle.std.proofs.lemmas.Bool.{and_parts, eqb-true, lt-ltb, le-ltb, cond-true, cond-false}
 use Rattle.std.proofs.lemmas.List.{length-take-le, length-drop}
@@ -31,7 +31,7 @@ use Rattle.jpeg_regions.proofs.Faults.{cuts_same}
 use Rattle.xmp_files.specs.declared.kinds.Kind.{Kind}
 use Rattle.xmp_files.specs.declared.kinds.Kind.TheVariants.{Jpeg, Tiff, BigTiff, WebP, Psd, Sidecar}
 use Rattle.xmp_files.specs.declared.held.Need.{Need}
-use Rattle.xmp_files.specs.Faults.{file_limit, over_limit, not_known, packet_limit, over_packet}
+use Rattle.xmp_files.specs.Faults.{file_limit, over_limit, packet_limit, over_packet}
 use Rattle.xmp_files.specs.Kinds.{kind_of, is_jpeg}
 use Rattle.xmp_files.specs.Stages.{followed}
 use Rattle.xmp_files.specs.Keeping.{Piece, Segments, Kept, photograph}

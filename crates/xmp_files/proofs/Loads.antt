@@ -11,7 +11,7 @@ use Rattle.std.proofs.lemmas.List.Elements.{All-append, All-nil, All-weaker}
 use Rattle.xmp_base.specs.Device.{DeskState, Lens, Moved, SizeCall, Told, OthersKeep, bytes_of, is_known, len_of, size_of, Rose}
 use Rattle.xmp_base.specs.Whole.{ReadsOf}
 use Rattle.xmp_base.specs.Windows.{FillFrom, IsInside, MovesInside, ReadInside}
-use Rattle.xmp_base.proofs.Calls.{same_trans, counts_trans, some_size, some_inside, some_trans, rose_after, now_known}
+use Rattle.xmp_base.proofs.Calls.{some_size, some_inside, some_trans, rose_after, now_known}
 use Rattle.xmp_base.proofs.Inside.{inside_none, inside_trans, inside_wider}
 use Rattle.xmp_base.proofs.Names.{get-insert_other}
 use Rattle.xmp_values.specs.declared.faults.Fault.{Fault}
@@ -24,7 +24,7 @@ use Rattle.xmp_files.specs.declared.kinds.Kind.{Kind}
 use Rattle.xmp_files.specs.declared.kinds.Kind.TheVariants.{Jpeg, Tiff, BigTiff, Sidecar}
 use Rattle.xmp_files.specs.declared.held.Need.{Need}
 use Rattle.xmp_files.specs.Faults.{file_limit, over_limit, not_known, short_offsets, not_built}
-use Rattle.xmp_files.specs.Kinds.{kind_of, kind_of_head, has_long_offsets}
+use Rattle.xmp_files.specs.Kinds.{kind_of, has_long_offsets}
 use Rattle.xmp_files.specs.Stages.{followed, Followed}
 use Rattle.xmp_files.specs.Keeping.{Kept}
 use Rattle.xmp_files.specs.Loading.{known, known_head, with_offsets, kind_of_file, IsContained, IsKept}
@@ -85,9 +85,9 @@ kind_read s t name size head (Ok kind) is whole len fill = record {
 kind_read s t name size head (Err fault) is whole len fill = record {
   calls = subst (λ (n : ℕ). ReadInside s t name 0 n) (omega (arith, len)) fill.calls;
   answer = (
-      λ files told. sym (is ∙ ap known_head (same_head size head (bytes_of files name) (whole files told) len (fill.bytes files told))),
-      fault_by (take 16 head) (kind_of head) fault (sym is),
-    );
+    λ files told. sym (is ∙ ap known_head (same_head size head (bytes_of files name) (whole files told) len (fill.bytes files told))),
+    fault_by (take 16 head) (kind_of head) fault (sym is),
+  );
 }
 
 pub kind_failed : (s t : DeskState) (name : List ℕ) (size : ℕ) (head : List ℕ) (failed : Failed) → length head ≡ min size 16 → FillFrom s t name 0 head (Err failed) → KindCall s t name size (Err Device)

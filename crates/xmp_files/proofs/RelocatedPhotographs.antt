@@ -1,7 +1,7 @@
 -- A JPEG file that is relocated with the packet of a tree, or with it in two texts, is read as that tree, and keeps its regions.
 use Rattle.std.proofs.Common.{◌≡◌, ◌∙◌, ℕ, ◌+◌, ◌-◌, ◌<◌, ◌≤◌, Bool, false, true, cond, List, [], ◌∷◌, ◌++◌, length, take, drop, refl, sym, ap, subst, arith, inr, Some, None, Ok, Err, length-append}
 use Rattle.std.specs.Prelude.{map, flat_map, slice_get}
-use Rattle.std.specs.Option.{option_map, ok_or}
+use Rattle.std.specs.Option.{option_map}
 use Rattle.std.specs.declared.option.Option.{Option}
 use Rattle.std.specs.declared.result.Result.{Result}
 use Rattle.std.proofs.lemmas.Bool.{le-ltb}
@@ -36,7 +36,7 @@ use Rattle.xmp_files.specs.declared.held.Need.TheVariants.{Packet}
 use Rattle.xmp_files.specs.declared.held.Extended.{Extended}
 use Rattle.xmp_files.specs.declared.held.Extended.TheVariants as extended
 use Rattle.xmp_files.specs.declared.opening.Opened.{Opened}
-use Rattle.xmp_files.specs.Faults.{file_limit, over_limit, not_known, packet_limit, over_packet}
+use Rattle.xmp_files.specs.Faults.{file_limit, over_limit, packet_limit, over_packet}
 use Rattle.xmp_files.specs.Kinds.{kind_of}
 use Rattle.xmp_files.specs.Stages.{followed, Followed}
 use Rattle.xmp_files.specs.Keeping.{Piece, Kept, photograph}

@@ -1,19 +1,17 @@
 -- A TIFF or BigTIFF file is walked, and its main packet is read.
-use Rattle.std.proofs.Common.{◌≡◌, ◌≢◌, ◌⊎◌, ◌∙◌, ℕ, ◌+◌, ◌-◌, ◌<◌, ◌≤◌, Bool, true, false, List, [], ◌∷◌, ◌++◌, length, take, drop, get_or, refl, sym, ap, subst, arith, inl, inr, IsTrue, Ok, Err, Some, None, if◌then◌else◌}
+use Rattle.std.proofs.Common.{◌≡◌, ◌≢◌, ◌∙◌, ℕ, ◌+◌, ◌-◌, ◌<◌, ◌≤◌, Bool, true, false, List, [], ◌∷◌, ◌++◌, length, take, drop, get_or, refl, sym, ap, subst, arith, inl, inr, IsTrue, Ok, Err, Some, None, if◌then◌else◌}
 use Rattle.std.specs.declared.option.Option.{Option}
 use Rattle.std.specs.declared.result.Result.{Result}
 use Rattle.std.specs.FinMap.{get}
 use Rattle.std.specs.Option.{option_map, unwrap_or}
-use Rattle.std.specs.Prelude.{IsOk, Contains, codes, nat_eq, nat_le, nat_lt, ◌&&◌, ◌||◌, All}
-use Rattle.std.specs.List.{starts_with}
+use Rattle.std.specs.Prelude.{IsOk, codes, nat_le, nat_lt, ◌&&◌}
 use Rattle.std.proofs.lemmas.Bool.Decides.{Decides-eqb}
 use Rattle.std.proofs.lemmas.Bool.{or_cases, and_from, and_parts, le-leb, leb-true, lt-ltb, cond-true}
 use Rattle.std.proofs.lemmas.List.{length-take-le, length-drop, take-take}
 use Rattle.std.proofs.Math.Seq.{take-append_seam}
 use Rattle.std.proofs.lemmas.Slice.Eq.{starts_is}
-use Rattle.xmp_base.specs.Device.{DeskState, Moved, Told, bytes_of, len_of, Rose}
-use Rattle.xmp_base.specs.Whole.{ReadsOf}
-use Rattle.xmp_base.specs.Windows.{IsInside, MovesInside, WindowCall}
+use Rattle.xmp_base.specs.Device.{DeskState, Moved, Told, bytes_of, len_of}
+use Rattle.xmp_base.specs.Windows.{MovesInside, WindowCall}
 use Rattle.xmp_base.specs.declared.file_span.FileSpan.{FileSpan}
 use Rattle.xmp_base.specs.declared.windows.WindowStop.{WindowStop}
 use Rattle.xmp_base.specs.declared.windows.WindowStop.TheVariants as windows
@@ -24,7 +22,6 @@ use Rattle.xmp_values.specs.declared.rules.Rule.TheVariants.{TwoPackets, ShortHe
 use Rattle.xmp_values.specs.declared.stops.FileStop.{FileStop}
 use Rattle.xmp_values.specs.declared.stops.FileStop.TheVariants.{Fault as Refused, Device, Memory}
 use Rattle.tiff_dirs.specs.declared.entry.Entry.{Entry}
-use Rattle.tiff_dirs.specs.declared.stop.TiffStop.{TiffStop}
 use Rattle.tiff_dirs.specs.declared.stop.TiffStop.TheVariants as stops
 use Rattle.tiff_dirs.specs.declared.stop.WalkStop.{WalkStop}
 use Rattle.tiff_dirs.specs.declared.stop.WalkStop.TheVariants as walks
@@ -34,22 +31,20 @@ use Rattle.tiff_dirs.specs.Model.{IsTiff, FirstFault}
 use Rattle.tiff_dirs.specs.FromDesk.{WalkReads}
 use Rattle.tiff_dirs.specs.Known.{WalkKnownCall}
 use Rattle.tiff_dirs.specs.Tables.{IsAmong, tables_of}
-use Rattle.tiff_dirs.specs.Overlaps.{others_in}
-use Rattle.tiff_dirs.specs.Standing.{Within}
 use Rattle.tiff_dirs.proofs.Standing.{table_within, entry_stands}
 use Rattle.tiff_dirs.proofs.Unique.{tiff_same}
 use Rattle.xmp_files.specs.declared.kinds.Kind.{Kind}
 use Rattle.xmp_files.specs.declared.kinds.Kind.TheVariants.{Jpeg, Tiff as Classic, BigTiff, WebP, Psd, Sidecar}
 use Rattle.xmp_files.specs.declared.held.Need.{Need}
-use Rattle.xmp_files.specs.Faults.{file_limit, over_limit, packet_limit, over_packet}
+use Rattle.xmp_files.specs.Faults.{file_limit, packet_limit, over_packet}
 use Rattle.xmp_files.specs.Kinds.{kind_of, is_jpeg, is_tiff, is_big_tiff, begins}
 use Rattle.xmp_files.specs.Stages.{Followed, followed}
 use Rattle.xmp_files.specs.Keeping.{Piece, Directories, Kept, image}
 use Rattle.xmp_files.specs.Photographs.{piece_at}
 use Rattle.xmp_files.specs.Images.{HasDirectories, tiff_packet, is_walk_rule, image_fault, IsImage, IsWalked}
 use Rattle.xmp_files.specs.Loading.{known, kind_of_file, limited_by, IsContained, IsKept, within}
-use Rattle.xmp_files.specs.Sparing.{IsIn, IsUnread, Spares, HasContainer, Spared}
-use Rattle.xmp_files.specs.Loads.{ReadKnown, SizedCall, IsLoadRefusal, RefusalReads, follows_walk, PayloadLies, IsOfSize, walked_stop, walk_stop}
+use Rattle.xmp_files.specs.Sparing.{IsUnread, Spares, HasContainer, Spared}
+use Rattle.xmp_files.specs.Loads.{ReadKnown, SizedCall, IsLoadRefusal, follows_walk, PayloadLies, IsOfSize, walked_stop, walk_stop}
 use Rattle.xmp_files.proofs.LoadedPhotographs.{known_by, len_same, limited_ok}
 use Rattle.xmp_files.proofs.Loads.{Sized, sized_refusal, sized_fails, sized_wants, sized_kept, known_inside, known_trans, known_kind, by_known, spared_trans}
 

@@ -21,7 +21,7 @@ use Rattle.xmp_files.specs.Plans.{packet_of, least_of, padding, whole_form, segm
 use Rattle.xmp_files.specs.Written.{FileIsWritten}
 use Rattle.xmp_files.proofs.Agreeing.{put_agrees}
 use Rattle.xmp_files.proofs.ExchangedPackets.{Stands, loaded_stands, same_piece, whole_piece}
-use Rattle.xmp_files.proofs.LoadedKept.{IsSidecarOf, IsPhotographOf, IsImageOf, LoadedAs, loaded_as, loaded_small}
+use Rattle.xmp_files.proofs.LoadedKept.{IsSidecarOf, IsPhotographOf, LoadedAs, loaded_as, loaded_small}
 use Rattle.xmp_files.proofs.OpenPackets.{writable_some, writable_long}
 use Rattle.xmp_files.proofs.PacketLengths.{length-packet, over_all}
 use Rattle.xmp_files.proofs.PlanCases.{IsExchange, IsAnew, IsAmong, IsBoth, Becomes, planned_cases}

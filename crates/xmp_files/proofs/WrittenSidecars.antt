@@ -1,7 +1,6 @@
 -- A sidecar that is the packet of a tree is read as that tree.
 use Rattle.std.proofs.Common.{◌≡◌, ℕ, ◌≤◌, Bool, false, cond, List, length, Option, Some, None, Ok, Err, refl, ap, sym, subst, ◌∙◌, arith}
 use Rattle.std.specs.Prelude.{nat_lt}
-use Rattle.std.specs.Option.{ok_or}
 use Rattle.std.proofs.lemmas.Bool.{le-ltb}
 use Rattle.std.specs.declared.result.Result.{Result}
 use Rattle.xmp_values.specs.Characters.{is_blank}
@@ -20,7 +19,7 @@ use Rattle.xmp_files.specs.declared.kinds.Kind.{Kind}
 use Rattle.xmp_files.specs.declared.kinds.Kind.TheVariants.{Sidecar}
 use Rattle.xmp_files.specs.declared.held.Need.TheVariants.{Packet}
 use Rattle.xmp_files.specs.declared.opening.Opened.{Opened}
-use Rattle.xmp_files.specs.Faults.{file_limit, over_limit, not_known, packet_limit, over_packet}
+use Rattle.xmp_files.specs.Faults.{file_limit, over_limit, packet_limit, over_packet}
 use Rattle.xmp_files.specs.Kinds.{kind_of}
 use Rattle.xmp_files.specs.Stages.{followed, Followed}
 use Rattle.xmp_files.specs.Keeping.{Kept, sidecar}

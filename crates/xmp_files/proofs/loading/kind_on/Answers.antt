@@ -1,8 +1,5 @@
-use Rattle.std.proofs.Common.{subst, sym, ◌∙◌, arith, Ok, Err}
+use Rattle.std.proofs.Common.{sym, ◌∙◌, arith, Ok, Err}
 use Rattle.std.proofs.lemmas.List.{length-take}
-use Rattle.std.specs.declared.result.Result.{Result}
-use Rattle.xmp_values.specs.declared.faults.Fault.{Fault}
-use Rattle.xmp_files.specs.declared.kinds.Kind.{Kind}
 use Rattle.xmp_files.proofs.Loads.{kind_read}
 use Rattle.xmp_files.proofs.loading.kind_on.Goals as goal
 
