@@ -13,7 +13,7 @@ use Rattle.xmp_cli.specs.Sending.{SentSome}
 
 -- the most bytes of a piece that is written
 abbrev pub most_piece : ℕ
-most_piece = 131072
+most_piece = 65536
 
 -- What a failed device leaves of a file that is put in: it is as it was; or its creation failed, or nothing was written yet; or
 -- it holds a part of the new bytes.

@@ -14,7 +14,7 @@ use Rattle.xmp_files.specs.NewFiles.{parts_at, spliced_parts}
 
 -- the most bytes of a piece that is written
 abbrev pub most_piece : ℕ
-most_piece = 131072
+most_piece = 65536
 
 -- a plan for what is kept of a file, of some edit
 abbrev pub IsPlanFor : Kept → Plan → Type 0

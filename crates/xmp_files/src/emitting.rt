@@ -15,14 +15,14 @@ use crate::plans::Planned;
 use xmp_base::{Desk, Failed, FileSpan, append, copy_range};
 
 /// The most bytes of a piece that is written.
-const PIECE: usize = 131_072;
+const PIECE: usize = 65_536;
 
 /// Writes the file of a plan to the name `to`, whatever was there. `from` is the file that was loaded and
 /// planned for: what stays of it is copied. It takes no memory.
 ///
 /// # Errors
 /// `Failed` after a failure that the desk counted. Nothing was written then, or the file holds a prefix of the
-/// whole and at most 131,072 bytes that a failed write left.
+/// whole and at most 65,536 bytes that a failed write left.
 pub fn emit<D: Desk>(
     desk: &mut D,
     held: &Held,

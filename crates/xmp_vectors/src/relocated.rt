@@ -12,6 +12,9 @@ const SIGNATURE: &[u8] = b"http://ns.adobe.com/xap/1.0/\0";
 
 const EXTENSION: &[u8] = b"http://ns.adobe.com/xmp/extension/\0";
 
+/// The MD5 of the text of 70,245 bytes in which 70,000 times `a` is the value of `dc:source`.
+const NAME: &[u8] = b"8A71786B24573BDE56354E41D83B6D16";
+
 const SET: [&str; 5] = ["set", "a.xmp", "out", "dc:format", "image/jpeg"];
 
 const APPLY: [&str; 4] = ["apply", "a.xmp", "out", "script"];
@@ -58,9 +61,11 @@ fn is_file(file: Option<&[u8]>, front: &[u8], len: usize, at: usize, piece: &[u8
 fn a_file_without_a_packet_gets_one(rt: HostRuntime) -> Result<(), Fail> {
     let alloc = rt.alloc();
     let ran = set(alloc, EMPTY)?;
-    let front = b"\xFF\xD8\xFF\xE1\x09\x67http://ns.adobe.com/xap/1.0/\0<?xpacket begin=";
-    assert!(rt; ran.ended("relocated 4 2413\n", ""));
-    assert!(rt; is_file(ran.out(), front, 2413, 2411, b"\xFF\xD9"));
+    let mut new = Vec::from_slice(alloc, b"\xFF\xD8\xFF\xE1\x09\x67")?;
+    new.extend_from_slice(SIGNATURE)?;
+    new.extend_from_slice(packet(alloc, PHOTO, 2048, "w")?.as_slice())?;
+    new.extend_from_slice(b"\xFF\xD9")?;
+    assert!(rt; ran.ended("relocated 4 2413\n", "") && ran.wrote(new.as_slice()));
     assert!(rt; ran.shows(alloc, "about \ndc:format text image/jpeg\n")?);
     Ok(())
 }
@@ -96,6 +101,7 @@ fn a_long_tree_stands_in_two_texts(rt: HostRuntime) -> Result<(), Fail> {
     let front = b"\xFF\xD8\xFF\xE1\x09\xE7";
     assert!(rt; is_file(ran.out(), front, 72_944, 2539, b"\xFF\xE1\xFF\xC5http"));
     assert!(rt; is_file(ran.out(), front, 72_944, 68_018, b"\xFF\xE1\x13\x3Ahttp"));
+    assert!(rt; is_file(ran.out(), front, 72_944, 2578, NAME));
     assert!(rt; is_file(ran.out(), front, 72_944, 72_942, b"\xFF\xD9"));
     Ok(())
 }
@@ -195,11 +201,16 @@ fn a_file_that_would_be_too_long_is_refused(rt: HostRuntime) -> Result<(), Fail>
 
 /// Whether each call that fails in its turn is told, and leaves at most a beginning of the new file. The desk moves at most 8,192
 /// bytes a call.
-fn all_failures_told(alloc: Global, words: &[&str], script: &[u8]) -> Result<bool, Memory> {
-    let whole = run_moving(alloc, words, EMPTY, script, SOUND, 8192)?;
+fn all_failures_told(
+    alloc: Global,
+    words: &[&str],
+    file: &[u8],
+    script: &[u8],
+) -> Result<bool, Memory> {
+    let whole = run_moving(alloc, words, file, script, SOUND, 8192)?;
     let new = whole.out().unwrap_or(EMPTY);
     for desk in 1..200 {
-        let ran = run_moving(alloc, words, EMPTY, script, Plan { desk, ..SOUND }, 8192)?;
+        let ran = run_moving(alloc, words, file, script, Plan { desk, ..SOUND }, 8192)?;
         if ran.is_done() {
             return Ok(desk > 1 && ran.wrote(new));
         }
@@ -214,7 +225,11 @@ fn all_failures_told(alloc: Global, words: &[&str], script: &[u8]) -> Result<boo
 fn a_failure_leaves_a_beginning_of_the_relocated_file(rt: HostRuntime) -> Result<(), Fail> {
     let alloc = rt.alloc();
     let script = long_script(alloc)?;
-    assert!(rt; all_failures_told(alloc, &SET, b"")?);
-    assert!(rt; all_failures_told(alloc, &APPLY, script.as_slice())?);
+    assert!(rt; all_failures_told(alloc, &SET, EMPTY, b"")?);
+    assert!(rt; all_failures_told(alloc, &APPLY, EMPTY, script.as_slice())?);
+    // the portions of the file are read, and taken out
+    let two = in_two(alloc)?;
+    let file = two.out().unwrap_or(EMPTY);
+    assert!(rt; all_failures_told(alloc, &APPLY, file, b"delete dc:source")?);
     Ok(())
 }
