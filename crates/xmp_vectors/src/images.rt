@@ -73,10 +73,12 @@ fn exchanges(alloc: Global, old: &[u8], new: &[u8], report: &str) -> Result<bool
     let words = ["set", "a.xmp", "out", "dc:format", "image/tiff"];
     let set = run_edit(alloc, &words, old, b"", SOUND)?;
     let patched = patch(alloc, old, "set dc:format image/tiff", 0)?;
-    Ok(set.ended(report, "")
-        && set.wrote(new)
-        && patched.ended(report, "")
-        && patched.file() == new)
+    Ok(
+        set.ended(report, "")
+            && set.wrote(new)
+            && patched.ended(report, "")
+            && patched.file() == new,
+    )
 }
 
 #[test]

@@ -72,7 +72,11 @@ fn a_long_file_is_refused_by_its_length(rt: HostRuntime) -> Result<(), Fail> {
         (b"", 1_099_511_627_777, over_file),
         (b"", 1_099_511_627_776, NOT_KNOWN),
         (b"<", 16_777_217, over_packet),
-        (b"MM\x00\x2A", 16_777_217, "refused DirectoryOut file 0 0 0\n"),
+        (
+            b"MM\x00\x2A",
+            16_777_217,
+            "refused DirectoryOut file 0 0 0\n",
+        ),
     ];
     for (front, length, line) in cases {
         let is_refused = both_refuse_length(rt.alloc(), front, length, line)?;

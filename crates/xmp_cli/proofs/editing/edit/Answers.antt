@@ -1,5 +1,5 @@
 use Rattle.std.proofs.Common.{sym}
-use Rattle.xmp_cli.proofs.EditExits.{load_stopped, open_refused, open_wants, plan_stopped, edit_done, edit_failed}
+use Rattle.xmp_cli.proofs.EditExits.{load_stopped, open_refused, open_wants, plan_stopped, write_loaded, edit_done, edit_failed}
 use Rattle.xmp_cli.proofs.editing.edit.Goals as goal
 
 pub returns-in-Err : goal.returns-in-Err
@@ -26,6 +26,12 @@ returns-in-Err-plan_of g c =
     c.in-Ok.held c.in-Ok.is c.in-Ok-read_file.opened c.in-Ok-read_file.ensures (g.D.Desk.state c.plan_of.new.desk) c.plan_of.result c.plan_of.ensures.call
     c.in-Err-plan_of.stop c.stopped-in-Err-plan_of.result c.in-Err-plan_of.is c.stopped-in-Err-plan_of.ensures in
     record { call = end.call; refuses = end.refusals }
+
+pub finish-requires-clause-loaded : goal.finish-requires-clause-loaded
+finish-requires-clause-loaded g c =
+    write_loaded c.args.file.now c.args.edits c.requires.apart (g.D.Desk.state c.args.desk.now) (g.D.Desk.state c.load.new.desk) (g.O.Sink.state c.args.out.now) c.load.result c.load.ensures.call
+    c.in-Ok.held c.in-Ok.is c.in-Ok-read_file.opened c.in-Ok-read_file.ensures (g.D.Desk.state c.plan_of.new.desk) c.plan_of.result c.plan_of.ensures.call
+    c.in-Ok-plan_of.planned c.in-Ok-plan_of.is
 
 pub returns-in-Ok-finish : goal.returns-in-Ok-finish
 returns-in-Ok-finish g c =
