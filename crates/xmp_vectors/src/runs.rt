@@ -235,7 +235,7 @@ pub fn run_moving(
     let mut desk = MemoryDesk::new(alloc);
     desk.add("a.xmp", file)?;
     desk.add("script", script)?;
-    desk.cut(most);
+    desk.cut(most.max(1));
     if plan.desk > 0 {
         desk.fail(plan.desk)?;
     }
