@@ -163,9 +163,8 @@ fn a_note_that_does_not_fit_is_refused(rt: HostRuntime) -> Result<(), Fail> {
         b"<rdf:RDF xmlns:rdf=\"http://www.w3.org/1999/02/22-rdf-syntax-ns#\"><rdf:Description rdf:about=\"";
     let mut text = with_letters(alloc, front, 65_200)?;
     text.extend_from_slice(b"\"/></rdf:RDF>")?;
-    let len = (text.len() + 31) as u16;
-    let mut file = Vec::from_slice(alloc, b"\xFF\xD8\xFF\xE1")?;
-    file.extend_from_slice(&len.to_be_bytes())?;
+    // 31 and the 65,306 bytes of the text
+    let mut file = Vec::from_slice(alloc, b"\xFF\xD8\xFF\xE1\xFF\x39")?;
     file.extend_from_slice(SIGNATURE)?;
     file.extend_from_slice(text.as_slice())?;
     file.extend_from_slice(b"\xFF\xD9")?;
