@@ -1,0 +1,2 @@
+pub mod Relocation
+pub mod Apart
