@@ -1,2 +1,3 @@
 pub mod Relocation
+pub mod Moves
 pub mod Apart

@@ -71,17 +71,31 @@ abbrev pub packet_entry : Layout → ℕ → ℕ → List ℕ
 packet_entry l len place =
     number_bytes l.big 2 700 ++ (number_bytes l.big 2 1 ++ (number_bytes l.big l.word len ++ number_bytes l.big l.word place))
 
--- the copy of the first directory: a count that is one more, its entries with the new one among them, and the next offset
-abbrev pub copy_by : Layout → List ℕ → Dir → ℕ → Option Entry → List ℕ
-copy_by l file d len (Some e) = []
-copy_by l file d len None =
-    number_bytes l.big l.count (length d.entries + 1)
-    ++ (bytes_in file (span (d.at + l.count) (cut_place l d)) ++ (packet_entry l len (packet_place_by l (length file) d None) ++ bytes_in file (span (cut_place l d) d.end)))
+-- The copy of the first directory, in four parts: a count that is one more, the entries before the new one, this, and those after it with
+-- the next offset. Ranges are those of the old file. Where there is an entry of the packet, nothing is copied.
+pub record Copy : Type 0 where
+  pub head : List ℕ
+  pub before : FileSpan
+  pub entry : List ℕ
+  pub after : FileSpan
 
-abbrev pub dir_copy : List ℕ → ℕ → Tiff → List ℕ
-dir_copy file len tiff = copy_by tiff.layout file (first_dir tiff.dirs) len (first_entry 700 tiff.dirs)
+abbrev pub copy_by : Layout → ℕ → Dir → ℕ → Option Entry → Copy
+copy_by l size d len (Some e) = record { head = []; before = span 0 0; entry = []; after = span 0 0 }
+copy_by l size d len None = record {
+  head = number_bytes l.big l.count (length d.entries + 1);
+  before = span (d.at + l.count) (cut_place l d);
+  entry = packet_entry l len (packet_place_by l size d None);
+  after = span (cut_place l d) d.end;
+}
+
+abbrev pub new_copy : ℕ → ℕ → Tiff → Copy
+new_copy size len tiff = copy_by tiff.layout size (first_dir tiff.dirs) len (first_entry 700 tiff.dirs)
+
+abbrev pub copy_bytes : List ℕ → Copy → List ℕ
+copy_bytes file c = c.head ++ (bytes_in file c.before ++ (c.entry ++ bytes_in file c.after))
 
 -- The new file: the old one with the numbers exchanged, a zero byte where its length is odd, the copy, and the packet.
 abbrev pub relocated : List ℕ → Tiff → List ℕ → List ℕ
 relocated file tiff packet =
-    put_at file (changed tiff).start (new_numbers (length file) (length packet) tiff) ++ (pad (length file) ++ (dir_copy file (length packet) tiff ++ packet))
+    put_at file (changed tiff).start (new_numbers (length file) (length packet) tiff)
+    ++ (pad (length file) ++ (copy_bytes file (new_copy (length file) (length packet) tiff) ++ packet))

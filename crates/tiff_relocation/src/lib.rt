@@ -4,3 +4,8 @@
 //! it; a count and an offset are exchanged, and all other bytes stay. It stands on `tiff_dirs`,
 //! `xmp_base`, `xmp_values` and `byteorder`. TIFF 6.0, section 2; XMP Specification Part 3, TIFF.
 #![tactic(auto)]
+
+mod numbers;
+mod relocation;
+
+pub use relocation::Relocation;
