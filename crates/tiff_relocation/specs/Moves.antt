@@ -40,8 +40,8 @@ abbrev pub MayTell : Relocation → ℕ → Type 0
 MayTell r len = r.place + len < 256 ^ r.layout.word
 
 -- a directory of 65,535 entries has no room for another
-abbrev pub lacks_room : Relocation → Bool
-lacks_room r = r.copied && nat_le 65535 r.entries
+abbrev pub has_no_room : Relocation → Bool
+has_no_room r = r.copied && nat_le 65535 r.entries
 
 abbrev pub numbers : Relocation → ℕ → List ℕ
 numbers r len =

@@ -1,12 +1,14 @@
 -- The new file of a TIFF or BigTIFF file whose packet is put at its end (TIFF 6.0, section 2; XMP Specification Part 3, TIFF).
-use Rattle.std.specs.Prelude.{ℕ, ◌+◌, ◌-◌, ◌*◌, ◌%◌, nat_lt, Bool, if◌then◌else◌, List, [], ◌∷◌, ◌++◌, length, replicate, None, Some}
+use Rattle.std.specs.Prelude.{ℕ, ◌+◌, ◌-◌, ◌*◌, ◌%◌, ◌&&◌, ◌||◌, nat_le, nat_lt, Bool, if◌then◌else◌, List, [], ◌∷◌, ◌++◌, length, replicate, None, Some}
 use Rattle.std.specs.declared.option.Option.{Option}
+use Rattle.std.specs.Option.{is_none}
 use Rattle.std.specs.List.{position_or_len}
 use Rattle.byteorder.specs.Endian.{big_bytes, little_bytes}
 use Rattle.xmp_base.specs.Device.{put_at}
 use Rattle.xmp_base.specs.declared.file_span.FileSpan.{FileSpan}
 use Rattle.tiff_dirs.specs.declared.layout.Layout.{Layout}
 use Rattle.tiff_dirs.specs.declared.entry.Entry.{Entry}
+use Rattle.tiff_dirs.specs.Types.{is_wide}
 use Rattle.tiff_dirs.specs.Directories.{span}
 use Rattle.tiff_dirs.specs.Frames.{bytes_in}
 use Rattle.tiff_dirs.specs.Tiff.{Dir, Tiff, first_entry}
@@ -99,3 +101,14 @@ abbrev pub relocated : List ℕ → Tiff → List ℕ → List ℕ
 relocated file tiff packet =
     put_at file (changed tiff).start (new_numbers (length file) (length packet) tiff)
     ++ (pad (length file) ++ (copy_bytes file (new_copy (length file) (length packet) tiff) ++ packet))
+
+-- A first directory of 65,535 entries has no room for another.
+abbrev pub lacks_room : Tiff → Bool
+lacks_room tiff = is_none (first_entry 700 tiff.dirs) && nat_le 65535 (length (first_dir tiff.dirs).entries)
+
+-- the numbers of a layout tell a file of so many bytes: those of a classic file have 32 bits
+abbrev pub most_classic : ℕ
+most_classic = 4294967295
+
+abbrev pub tells : Layout → ℕ → Bool
+tells l len = is_wide l || nat_le len most_classic

@@ -1,9 +1,8 @@
 //! Where a relocation changes a file, and the bytes that it puts there.
-ghost use Rattle.std.specs.Prelude.{◌≡◌, ◌≢◌, ◌≤◌, ◌<◌, ◌^◌, ◌++◌, length, IfSome, OnOk, true};
-ghost use Rattle.std.specs.List.{position_or_len};
-ghost use Rattle.tiff_dirs.specs.Tiff.{entries_in, first_entry};
-ghost use Rattle.tiff_relocation.specs.Relocation.{cut_place, entries_before, even, first_dir, pad, packet_entry};
-ghost use Rattle.tiff_relocation.specs.Moves.{Lies, MayTell, copy_entry, copy_head, lacks_room, numbers, relocation_of};
+ghost use Rattle.std.specs.Prelude.{◌≡◌, ◌≤◌, ◌<◌, ◌^◌, ◌++◌, length, IfSome, OnOk, false};
+ghost use Rattle.tiff_dirs.specs.Tiff.{first_entry};
+ghost use Rattle.tiff_relocation.specs.Relocation.{cut_place, entries_before, even, first_dir, pad, tells};
+ghost use Rattle.tiff_relocation.specs.Moves.{Lies, MayTell, copy_entry, copy_head, has_no_room, numbers, relocation_of};
 
 use crate::numbers::push_number;
 use tiff_dirs::{Dirs, Entry, Layout};
@@ -159,9 +158,16 @@ impl Relocation {
 
     /// Whether the first directory would need an entry more than a directory may have.
     pub fn lacks_room(&self) -> bool
-        ensures { result ≡ lacks_room self.now }
+        ensures { result ≡ has_no_room self.now }
     {
         self.copied && self.entries >= 65_535
+    }
+
+    /// Whether the numbers of the layout tell a file of so many bytes.
+    pub fn tells(&self, len: u64) -> bool
+        ensures { result ≡ tells self.now.layout len }
+    {
+        self.layout.word == 8 || len <= u64::from(u32::MAX)
     }
 
     /// Adds the numbers that are exchanged, for a packet of `len` bytes.
@@ -180,7 +186,7 @@ impl Relocation {
     /// Adds the zero byte after an odd length, and the count of the copy.
     pub fn push_head(&self, bytes: &mut Vec<u8>) -> Result<(), Memory>
         requires lies { Lies self.now }
-        requires room { lacks_room self.now ≢ true }
+        requires room { has_no_room self.now ≡ false }
         ensures { OnOk result (bytes.new.items ≡ bytes.old.items ++ (pad self.now.size ++ copy_head self.now)) }
     {
         if self.size % 2 == 1 {

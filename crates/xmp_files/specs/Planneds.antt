@@ -11,12 +11,13 @@ use Rattle.xmp_files.specs.Keeping.{Piece, Container, Kept}
 use Rattle.xmp_base.specs.declared.file_span.FileSpan.{FileSpan}
 use Rattle.xmp_files.specs.declared.parts.NewFile.{NewFile}
 use Rattle.xmp_files.specs.NewFiles.{parts_at, NewLies}
-use Rattle.xmp_files.specs.Planning.{Edited, Plan, Same, InPlace, Relocated}
+use Rattle.tiff_dirs.specs.Tiff.{Tiff}
+use Rattle.xmp_files.specs.Planning.{Edited, Part, Plan, Same, InPlace, Relocated}
 use Rattle.jpeg_regions.specs.Jpeg.{Region}
 use Rattle.jpeg_extended.specs.Written.{name_text, portion_at, segment_text}
 use Rattle.xmp_values.specs.declared.hints.Hint.{Hint}
 use Rattle.xmp_tree.specs.Parts.{Parts}
-use Rattle.xmp_files.specs.Plans.{IsPlanned, IsMoved, IsDivided, put_among}
+use Rattle.xmp_files.specs.Plans.{IsPlanned, IsMoved, IsDivided, put_among, put_last, within_out}
 
 abbrev pub plan_of : Exchange → Plan
 plan_of Nothing = Same
@@ -62,6 +63,16 @@ DivideAnswer regions joined t hints result =
 abbrev pub AmongAnswer : List Region → List FileSpan → List ℕ → Result Exchange FaultStop → Type 0
 AmongAnswer regions joined new result =
     Answers fault_of result (λ exchange. Ok (plan_of exchange) ≡ put_among regions joined new) (λ fault. Err fault ≡ put_among regions joined new)
+
+-- parts are a new file, or it is too long
+abbrev pub PartsAnswer : List Part → Result Exchange FaultStop → Type 0
+PartsAnswer parts result =
+    Answers fault_of result (λ exchange. Ok (plan_of exchange) ≡ within_out parts) (λ fault. Err fault ≡ within_out parts)
+
+-- a packet at the end of a TIFF file is what the definition says; want of memory is free
+abbrev pub LastAnswer : ℕ → Tiff → List ℕ → Result Exchange FaultStop → Type 0
+LastAnswer size tiff packet result =
+    Answers fault_of result (λ exchange. Ok (plan_of exchange) ≡ put_last size tiff packet) (λ fault. Err fault ≡ put_last size tiff packet)
 
 -- the bytes of a payload, none without one
 abbrev pub bytes_in : Option Piece → List ℕ

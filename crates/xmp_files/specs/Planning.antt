@@ -8,6 +8,9 @@ use Rattle.jpeg_regions.specs.Jpeg.{Region, Jpeg}
 use Rattle.jpeg_extended.specs.FromDesk.{payload_at}
 use Rattle.jpeg_relocation.specs.Relocation.{part_of, kept}
 use Rattle.tiff_dirs.specs.Tiff.{Tiff}
+use Rattle.tiff_dirs.specs.Model.{IsTiff}
+use Rattle.tiff_relocation.specs.Relocation.{changed}
+use Rattle.tiff_relocation.specs.Apart.{IsApart}
 use Rattle.xmp_files.specs.Keeping.{Piece, Container, Text, Segments, Directories, Kept}
 
 -- What a command makes of a file: the tree that was there, the new one with all hints, and the 16 bytes of the stored digest
@@ -73,9 +76,12 @@ pub record KeepsRegions (old : List ℕ) (regions : List Region) (joined : List 
   pub added : List FileSpan
   pub same : map (part_of new) (kept added list) ≡ map (part_of old) (kept joined regions)
 
--- the pictures of a TIFF file have their old places and bytes
-abbrev pub KeepsRanges : List ℕ → Tiff → List ℕ → Type 0
-KeepsRanges old tiff new = All (λ r. payload_at new r ≡ payload_at old r) tiff.pictures
+-- A relocated TIFF file has all old bytes but the exchanged numbers; where no range names these too, its pictures have their old places and
+-- bytes.
+pub record KeepsRanges (old : List ℕ) (tiff : Tiff) (new : List ℕ) : Type 0 where
+  pub outside : (place : ℕ) → place < length old → (place < (changed tiff).start) ⊎ ((changed tiff).end ≤ place) → slice_get new place ≡ slice_get old place
+  pub pictures : IsApart tiff → All (λ r. payload_at new r ≡ payload_at old r) tiff.pictures
+  pub same : IsApart tiff → (now : Tiff) → IsTiff new now → now.pictures ≡ tiff.pictures
 
 -- what a relocation leaves of pictures and of what isn't metadata: a sidecar has neither
 abbrev pub KeepsPictures : Container → List FileSpan → List ℕ → List ℕ → Type 0

@@ -4,7 +4,7 @@ use Rattle.std.specs.declared.result.Result.{Result}
 use Rattle.xmp_values.specs.declared.faults.Fault.{Fault}
 use Rattle.xmp_values.specs.declared.faults.Part.TheVariants.{File, Main}
 use Rattle.xmp_values.specs.declared.hints.Hint.{Hint}
-use Rattle.xmp_values.specs.declared.rules.Rule.TheVariants.{NeedsRelocation, SegmentLimit, AfterMultiPicture, OutLimit}
+use Rattle.xmp_values.specs.declared.rules.Rule.TheVariants.{NeedsRelocation, SegmentLimit, TiffLimit, AfterMultiPicture, OutLimit}
 use Rattle.xmp_base.specs.declared.file_span.FileSpan.{FileSpan}
 use Rattle.jpeg_regions.specs.Jpeg.{Region, text, span}
 use Rattle.jpeg_relocation.specs.declared.pictures.MovedPictures.{MovedPictures}
@@ -14,6 +14,9 @@ use Rattle.jpeg_relocation.specs.Pictures.{moved_pictures}
 use Rattle.jpeg_relocation.specs.NewSegments.{main_limit, new_segments}
 use Rattle.jpeg_relocation.specs.Laws.{NoStray as HasNoStray}
 use Rattle.jpeg_extended.specs.Written.{name_text}
+use Rattle.tiff_dirs.specs.Tiff.{Tiff}
+use Rattle.tiff_relocation.specs.Relocation.{changed, lacks_room, most_classic, new_copy, new_numbers, packet_place, pad, tells}
+use Rattle.tiff_relocation.specs.Apart.{IsApart}
 use Rattle.xmp_tree.specs.Parts.{Parts}
 use Rattle.xmp_packets.specs.Packets.{is_writable}
 use Rattle.xmp_write.specs.declared.forms.Form.{Form}
@@ -22,7 +25,7 @@ use Rattle.xmp_write.specs.Text.{canonical_text}
 use Rattle.xmp_write.specs.Splits.{front_form, rest_form, IsSplit, FitsNever}
 use Rattle.xmp_write.specs.WrittenPackets.{least_len, canonical_packet}
 use Rattle.round_trip.specs.Law.{MayWrite}
-use Rattle.xmp_files.specs.Faults.{file_limit, packet_limit, over_packet, over_extended, not_built}
+use Rattle.xmp_files.specs.Faults.{file_limit, packet_limit, over_packet, over_extended}
 use Rattle.xmp_files.specs.Keeping.{Piece, Container, Text, Segments, Directories, Kept}
 use Rattle.xmp_files.specs.Planning.{Edited, Part, Old, New, parts_len, Plan, Same, InPlace, Relocated}
 
@@ -158,12 +161,34 @@ IsRelocated regions joined e step =
     ((least_of e ≤ main_limit) × (step ≡ put_among regions joined (segments_text (packet_of e (segment_padded (least_of e))) None)))
     ⊎ ((main_limit < least_of e) × IsDivided regions joined e.new e.hints step)
 
--- The file that has the new packet in another place, or the first fault. A sidecar is nothing but its packet. A TIFF file isn't
--- relocated yet.
+-- The first directory of a TIFF file would need an entry more than a directory may have.
+abbrev pub over_entries : Fault
+over_entries = record { rule = TiffLimit; place = record { part = File; at = 0 }; x = 65536; y = 65535 }
+
+-- the new file is longer than the numbers of a classic TIFF file tell
+abbrev pub over_offsets : ℕ → Fault
+over_offsets size = record { rule = TiffLimit; place = record { part = File; at = 0 }; x = size; y = most_classic }
+
+-- The parts of a relocated TIFF file: the old one with a count and an offset exchanged, or the header's offset; a zero byte after an odd
+-- length; the four parts of the copy of the first directory, where it has no entry of the packet; and the packet.
+abbrev pub appended_parts : ℕ → Tiff → List ℕ → List Part
+appended_parts size tiff packet =
+    let copy = new_copy size (length packet) tiff in
+    Old (span 0 (changed tiff).start) ∷ New (new_numbers size (length packet) tiff) ∷ Old (span (changed tiff).end size)
+    ∷ New (pad size ++ copy.head) ∷ Old copy.before ∷ New copy.entry ∷ Old copy.after ∷ New packet ∷ []
+
+-- the packet at the end of a TIFF file of so many bytes, or why it doesn't come there
+abbrev pub put_last : ℕ → Tiff → List ℕ → Result Plan Fault
+put_last size tiff packet =
+    if lacks_room tiff then Err over_entries
+    else (if tells tiff.layout (packet_place size tiff + length packet) then within_out (appended_parts size tiff packet)
+    else Err (over_offsets (packet_place size tiff + length packet)))
+
+-- The file that has the new packet in another place, or the first fault. A sidecar is nothing but its packet.
 abbrev pub IsRelocation : Container → List FileSpan → Edited → Result Plan Fault → Type 0
 IsRelocation Text joined e step = step ≡ Ok (Relocated (New (packet_of e (least_of e + padding)) ∷ []))
 IsRelocation (Segments regions) joined e step = IsRelocated regions joined e step
-IsRelocation (Directories size tiff) joined e step = step ≡ Err not_built
+IsRelocation (Directories size tiff) joined e step = step ≡ put_last size tiff (packet_of e (least_of e + padding))
 
 abbrev pub OrRelocation : Option (Result Plan Fault) → Container → List FileSpan → Edited → Result Plan Fault → Type 0
 OrRelocation (Some known) container portions e step = step ≡ known
@@ -204,7 +229,7 @@ pub record MayPlan (t : Parts) (hints : List Hint) : Type 0 where
 abbrev pub Apart : Container → Type 0
 Apart Text = Unit {0}
 Apart (Segments regions) = Unit {0}
-Apart (Directories size tiff) = Unit {0}
+Apart (Directories size tiff) = IsApart tiff
 
 abbrev pub NoStrayIn : List ℕ → List Region → List FileSpan → Edited → Plan → Type 0
 NoStrayIn file regions joined e Same = Unit {0}

@@ -9,6 +9,7 @@
 //! `xmp_write` and the law of `round_trip`.
 #![tactic(auto)]
 
+mod appending;
 mod dividing;
 mod emitting;
 mod faults;

@@ -9,8 +9,9 @@ ghost use Rattle.xmp_files.specs.Loads.{IsOfSize};
 ghost use Rattle.xmp_files.specs.Patching.{new_payload};
 ghost use Rattle.std.specs.Option.{option_copied};
 
+use crate::appending::append_packet;
 use crate::dividing::with_both;
-use crate::faults::{PACKET_LIMIT, not_built, over_packet};
+use crate::faults::{PACKET_LIMIT, over_packet};
 use crate::held::Held;
 use crate::opening::Opened;
 use crate::parts::{NewFile, whole_file};
@@ -230,8 +231,8 @@ fn change_of(
     if patch {
         return Err(FaultStop::Fault(needs_relocation(least, held.payload_len())));
     }
-    if held.directories().is_some() {
-        return Err(FaultStop::Fault(not_built()));
+    if let Some(dirs) = held.directories() {
+        return append_packet(alloc, held.size(), dirs, tree, &prefixes, &form, padded as usize);
     }
     let Some(regions) = held.regions() else {
         let bytes = packet(alloc, tree, &prefixes, &form, padded as usize)?;
@@ -252,7 +253,7 @@ fn change_of(
 ///
 /// # Errors
 /// The first fault of the steps after the edits: XmpLimit of the new text, then NeedsRelocation with `patch`, and of a
-/// JPEG file SegmentLimit, XmpLimit of the new extended text, AfterMultiPicture and OutLimit.
+/// JPEG file SegmentLimit, XmpLimit of the new extended text and AfterMultiPicture, of a TIFF file TiffLimit, and OutLimit.
 #[tactic(auto, using(crate::proofs::Placing::stops_planned))]
 pub fn plan(
     alloc: Global,

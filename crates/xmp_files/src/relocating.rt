@@ -11,7 +11,7 @@ ghost use Rattle.xmp_write.specs.WrittenPackets.{least_len, packet};
 ghost use Rattle.xmp_files.specs.NewFiles.{PartLies, parts_at, kept_parts, old_parts};
 ghost use Rattle.xmp_files.specs.Planning.{parts_len};
 ghost use Rattle.xmp_files.specs.Plans.{after_pictures, over_out, segment_padded, segments_text, told};
-ghost use Rattle.xmp_files.specs.Planneds.{AmongAnswer, ExchangeLies};
+ghost use Rattle.xmp_files.specs.Planneds.{AmongAnswer, ExchangeLies, PartsAnswer};
 
 use crate::faults::FILE_LIMIT;
 use crate::parts::{FilePart, NewFile, span};
@@ -38,7 +38,7 @@ pub fn segment_padded(least: u64) -> u64
 }
 
 /// Adds a packet of this length.
-fn push_packet(
+pub fn push_packet(
     segments: &mut Vec<u8>,
     tree: &Tree<'_>,
     prefixes: &Prefixes<'_>,
@@ -133,6 +133,19 @@ fn over_out(size: u64) -> Fault
     }
 }
 
+/// The new file of these parts, with ranges of an old one of `size` bytes, or its length is over the limit.
+pub fn within_out(size: u64, parts: Vec<FilePart>, bytes: Bytes) -> Result<Exchange, FaultStop>
+    requires lie { All (PartLies size (length bytes)) parts.items }
+    ensures step { PartsAnswer (parts_at bytes parts.items) result }
+    ensures lies { IfOk result (ExchangeLies size) }
+{
+    let len = total_len(parts.as_slice(), size, bytes.as_slice());
+    if len > FILE_LIMIT {
+        return Err(FaultStop::Fault(over_out(len)));
+    }
+    Ok(Exchange::Anew(NewFile { parts, bytes, len }))
+}
+
 /// New bytes among the regions of a JPEG file of `size` bytes, in which no main packet and no joined portion stays, or
 /// why they don't come there.
 pub fn put_among(
@@ -153,11 +166,7 @@ pub fn put_among(
         return Err(FaultStop::Fault(after_pictures(moved)));
     }
     let parts = parts_around(alloc, &kept, count)?;
-    let len = total_len(parts.as_slice(), size, bytes.as_slice());
-    if len > FILE_LIMIT {
-        return Err(FaultStop::Fault(over_out(len)));
-    }
-    Ok(Exchange::Anew(NewFile { parts, bytes, len }))
+    within_out(size, parts, bytes)
 }
 
 /// The new file with a main packet of the whole tree, of this least length.
