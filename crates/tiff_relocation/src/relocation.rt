@@ -1,5 +1,5 @@
 //! Where a relocation changes a file, and the bytes that it puts there.
-ghost use Rattle.std.specs.Prelude.{◌≡◌, ◌≤◌, ◌<◌, ◌^◌, ◌++◌, length, IfSome, OnOk, false};
+ghost use Rattle.std.specs.Prelude.{◌≡◌, ◌≤◌, ◌<◌, ◌^◌, ◌++◌, length, IfSome, OnOk, false, true};
 ghost use Rattle.tiff_dirs.specs.Tiff.{first_entry};
 ghost use Rattle.tiff_relocation.specs.Relocation.{cut_place, entries_before, even, first_dir, pad, tells};
 ghost use Rattle.tiff_relocation.specs.Moves.{Lies, MayTell, copy_entry, copy_head, has_no_room, numbers, relocation_of};
@@ -165,7 +165,9 @@ impl Relocation {
 
     /// Whether the numbers of the layout tell a file of so many bytes.
     pub fn tells(&self, len: u64) -> bool
-        ensures { result ≡ tells self.now.layout len }
+        requires lies { Lies self.now }
+        ensures is { result ≡ tells self.now.layout len }
+        ensures holds { result ≡ true → len < 256 ^ self.now.layout.word }
     {
         self.layout.word == 8 || len <= u64::from(u32::MAX)
     }

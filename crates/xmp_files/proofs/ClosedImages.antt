@@ -12,7 +12,7 @@ use Rattle.xmp_files.specs.Images.{IsImage}
 use Rattle.xmp_files.specs.Opening.{Holds}
 use Rattle.xmp_files.specs.Patching.{DocumentOrFault}
 use Rattle.xmp_files.proofs.WalkedImages.{IsImageKind}
-use Rattle.xmp_files.proofs.ExchangedImages.{exchanged_image, image_loaded}
+use Rattle.xmp_files.proofs.ExchangedImages.{exchanged_image, exchanged_loaded}
 use Rattle.xmp_files.proofs.ClosedPackets.{closed_fault}
 
 pub image_closed : DocumentOrFault → (need : Need) (old : List ℕ) (kept : Kept) (x : IsImage need old kept) (payload : Piece) (there : kept.payload ≡ Some payload) (kind : IsImageKind old)
@@ -23,5 +23,5 @@ image_closed decided need old kept x payload there kind now as_long long small s
     let kept_now : Kept = exchanged_image need old kept x payload there kind now as_long long in
     let fault : Fault = fault_at f.0 Main f.1 in (
       fault,
-      (Ok kept_now, image_loaded need old kept x payload there kind now as_long long small short, (Err fault, (Err (f.0, f.1), f.2, refl), refl)),
+      (Ok kept_now, exchanged_loaded need old kept x payload there kind now as_long long small short, (Err fault, (Err (f.0, f.1), f.2, refl), refl)),
     )

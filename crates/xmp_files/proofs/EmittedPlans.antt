@@ -86,7 +86,8 @@ planned_by file kept e plan whole stands near (inl h) = planned_kept file kept.s
 planned_by file kept e plan whole stands near (inr (same, inl x)) = planned_exchange file kept.size kept.payload e plan whole stands x
 planned_by file kept e plan whole stands near (inr (same, inr (inl x))) = absurd (subst IsNear x.is near)
 planned_by file kept e plan whole stands near (inr (same, inr (inr (inl x)))) = absurd (subst IsNear x.is near)
-planned_by file kept e plan whole stands near (inr (same, inr (inr (inr x)))) = absurd (subst IsNear x.is near)
+planned_by file kept e plan whole stands near (inr (same, inr (inr (inr (inl x))))) = absurd (subst IsNear x.is near)
+planned_by file kept e plan whole stands near (inr (same, inr (inr (inr (inl x))))) = absurd (subst IsNear x.is near)
 
 -- a file that was loaded is there
 pub loaded_there : (need : Need) (file : Option (List ℕ)) (kept : Kept) → IsLoaded need file (Ok kept) → file ≡ Some (unwrap_or file [])
@@ -125,7 +126,8 @@ size_by kept e plan lies near (inl h) = size_kept kept.size kept.payload plan li
 size_by kept e plan lies near (inr (same, inl x)) = size_exchange kept.size kept.payload e plan lies x
 size_by kept e plan lies near (inr (same, inr (inl x))) = absurd (subst IsNear x.is near)
 size_by kept e plan lies near (inr (same, inr (inr (inl x)))) = absurd (subst IsNear x.is near)
-size_by kept e plan lies near (inr (same, inr (inr (inr x)))) = absurd (subst IsNear x.is near)
+size_by kept e plan lies near (inr (same, inr (inr (inr (inl x))))) = absurd (subst IsNear x.is near)
+size_by kept e plan lies near (inr (same, inr (inr (inr (inl x))))) = absurd (subst IsNear x.is near)
 
 near_len : (held : Kept) (new : Plan) → IsPlanFor held new → IsOfSize held.size held → IsNear new → parts_len (near_parts held.payload new held.size) ≡ planned_len held.size new
 near_len held new plan lies near =

@@ -42,62 +42,8 @@ use Rattle.xmp_files.specs.Images.{HasDirectories, tiff_packet, IsImage}
 use Rattle.xmp_files.specs.Loading.{known, with_offsets, kind_of_file, IsKept, IsLoaded}
 use Rattle.xmp_files.specs.Opening.{IsOpened, HoldsTree}
 use Rattle.xmp_files.proofs.Loads.{known_kind, known_as}
-use Rattle.xmp_files.proofs.WalkedImages.{kind_by, classic_tests, big_tests, IsImageKind, image_told, length_piece}
-use Rattle.xmp_files.proofs.WrittenSidecars.{meant, opens}
-
--- The kind of a file of directories depends on its first 8 bytes alone.
-
-front_same : (n : ℕ) (a b : List ℕ) → n ≤ 8 → take 8 a ≡ take 8 b → take n (take 16 a) ≡ take n (take 16 b)
-front_same n a b few h =
-    take-take n 16 a (omega (arith, few)) ∙ sym (take-take n 8 a few) ∙ ap (take n) h ∙ take-take n 8 b few ∙ sym (take-take n 16 b (omega (arith, few)))
-
-begins_same : (a b signature : List ℕ) → length signature ≤ 8 → take 8 a ≡ take 8 b → begins (take 16 a) signature ≡ begins (take 16 b) signature
-begins_same a b signature few h = ap (pointwise nat_eq signature) (front_same (length signature) a b few h)
-
-classic_kind : (a b c d e f : Bool) → a ≡ false → b ≡ true → kind_by a b c d e f ≡ Some Classic
-classic_kind a b c d e f p q = rw (p, q) refl
-
-big_kind : (a b c d e f : Bool) → a ≡ false → b ≡ false → c ≡ true → kind_by a b c d e f ≡ Some BigTiff
-big_kind a b c d e f p q r = rw (p, q, r) refl
-
-module _ (a b : List ℕ) (h : take 8 a ≡ take 8 b) (long_a : 8 ≤ length a) (long_b : 8 ≤ length b) where
-  jpeg_same : is_jpeg (take 16 a) ≡ is_jpeg (take 16 b)
-  jpeg_same = begins_same a b (0xFF ∷ 0xD8 ∷ []) (omega arith) h
-
-  tiff_same : is_tiff (take 16 a) ≡ is_tiff (take 16 b)
-  tiff_same = λ i. begins_same a b (codes "II" ++ 0x2A ∷ 0x00 ∷ []) (omega arith) h i || begins_same a b (codes "MM" ++ 0x00 ∷ 0x2A ∷ []) (omega arith) h i
-
-  big_same : is_big_tiff (take 16 a) ≡ is_big_tiff (take 16 b)
-  big_same = λ i. begins_same a b (codes "II" ++ 0x2B ∷ 0x00 ∷ []) (omega arith) h i || begins_same a b (codes "MM" ++ 0x00 ∷ 0x2B ∷ []) (omega arith) h i
-
-  offsets_same : has_long_offsets (take 16 a) ≡ has_long_offsets (take 16 b)
-  offsets_same = λ i. begins_same a b (codes "II" ++ 0x2B ∷ 0x00 ∷ 0x08 ∷ 0x00 ∷ 0x00 ∷ 0x00 ∷ []) (omega arith) h i
-      || begins_same a b (codes "MM" ++ 0x00 ∷ 0x2B ∷ 0x00 ∷ 0x08 ∷ 0x00 ∷ 0x00 ∷ []) (omega arith) h i
-
-  long_enough : (file : List ℕ) → 8 ≤ length file → nat_le 8 (length (take 16 file)) ≡ true
-  long_enough file long = le-leb 8 (length (take 16 file)) (omega (arith, length-take 16 file, long))
-
-  with_same : with_offsets (take 16 b) BigTiff ≡ with_offsets (take 16 a) BigTiff
-  with_same = λ i. if (long_enough b long_b ∙ sym (long_enough a long_a)) i && not (sym offsets_same i) then Err short_offsets else Ok BigTiff
-
-  kind_same : (kind : Kind) → HasDirectories kind → kind_of a ≡ Some kind → kind_of b ≡ Some kind
-  kind_same Classic has is = let t = classic_tests a is in classic_kind (is_jpeg (take 16 b)) (is_tiff (take 16 b)) _ _ _ _ (sym jpeg_same ∙ t.0) (sym tiff_same ∙ t.1)
-  kind_same BigTiff has is =
-      let t = big_tests a is in
-      big_kind (is_jpeg (take 16 b)) (is_tiff (take 16 b)) (is_big_tiff (take 16 b)) _ _ _ (sym jpeg_same ∙ t.0) (sym tiff_same ∙ t.1) (sym big_same ∙ t.2)
-  kind_same kind has is = absurd has
-
-  known_by_kind : (kind : Kind) → HasDirectories kind → known a ≡ Ok kind → known b ≡ Ok kind
-  known_by_kind Classic has is = known_as b Classic (kind_same Classic has (known_kind a Classic is)) refl
-  known_by_kind BigTiff has is =
-      let kind : kind_of a ≡ Some BigTiff = known_kind a BigTiff is in
-      let plain : with_offsets (take 16 a) BigTiff ≡ Ok BigTiff =
-      sym (ap (λ (k : Option Kind). followed (ok_or k not_known) (with_offsets (take 16 a))) kind) ∙ is in
-      known_as b BigTiff (kind_same BigTiff has kind) (with_same ∙ plain)
-  known_by_kind kind has is = absurd has
-
-  pub image_kind_same : IsImageKind a → IsImageKind b
-  image_kind_same (kind, has, is) = (kind, has, known_by_kind kind has is)
+use Rattle.xmp_files.proofs.WalkedImages.{IsImageKind, length_piece}
+use Rattle.xmp_files.proofs.HeldImages.{image_kind_same, image_loaded, image_read}
 
 -- an entry that is there
 entry_in : (old : List ℕ) (found : Option Entry) (payload : Piece) → option_map (λ (x : Entry). piece_at old x.value) found ≡ Some payload
@@ -181,15 +127,16 @@ module _ (need : Need) (old : List ℕ) (kept : Kept) (x : IsImage need old kept
     pub image_size : length file ≡ length old
     image_size = put_length payload.at (length now) old now (omega (arith, image_within, as_long)) refl
 
-    front : take 8 old ≡ take 8 file
-    front = sym (
-        ap (take 8) (append_assoc (take payload.at old) now (drop (payload.at + length now) old))
-        ∙ take-append-le 8 (take payload.at old) (now ++ drop (payload.at + length now) old) (omega (arith, length-take payload.at old, behind, image_within))
-        ∙ take-take 8 payload.at old behind
-        )
+    front : take x.tiff.layout.word file ≡ take x.tiff.layout.word old
+    front =
+        ap (take x.tiff.layout.word) (append_assoc (take payload.at old) now (drop (payload.at + length now) old))
+        ∙ take-append-le x.tiff.layout.word (take payload.at old) (now ++ drop (payload.at + length now) old) (let most = widths.most_word in omega (arith, length-take payload.at old, behind, image_within, most))
+        ∙ take-take x.tiff.layout.word payload.at old (let most = widths.most_word in omega (arith, behind, most))
 
     pub kind_now : IsImageKind file
-    kind_now = image_kind_same old file front (omega (arith, behind, image_within)) (omega (arith, behind, image_within, image_size)) kind
+    kind_now =
+        image_kind_same old file (subst (λ (l : Layout). 4 ≤ l.word) layout_is widths.least_word) (subst (λ (l : Layout). take l.word file ≡ take l.word old) layout_is front)
+        (omega (arith, behind, image_within)) (omega (arith, behind, image_within, image_size)) kind
 
     new_piece : piece_at file e.value ≡ record { at = payload.at; bytes = now }
     new_piece =
@@ -205,23 +152,9 @@ module _ (need : Need) (old : List ℕ) (kept : Kept) (x : IsImage need old kept
     abbrev pub exchanged_image : Kept
     exchanged_image = image Packet (length file) x.tiff (Some (record { at = payload.at; bytes = now }))
 
-    is_image : IsImage Packet file exchanged_image
-    is_image = record { tiff = x.tiff; walked = walked_now; is = ap (λ (o : Option Piece). image Packet (length file) x.tiff o) (sym new_packet) }
-
-    -- the file is loaded with the new packet
-    pub image_loaded : length old ≤ file_limit → length now ≤ packet_limit → IsLoaded Packet (Some file) (Ok exchanged_image)
-    image_loaded small short =
-        let within : Ok exchanged_image ≡ cond (nat_lt packet_limit (length now)) (Err (over_packet (length now))) (Ok exchanged_image) =
-        ap (λ (b : Bool). cond b (Err (over_packet (length now))) (Ok exchanged_image)) (sym (le-ltb packet_limit (length now) short)) in
-        let there_is : kind_of_file (Some file) ≡ known file =
-        ap (λ (b : Bool). followed (cond b (Err (over_limit (length file))) (Ok file)) known) (le-ltb file_limit (length file) (omega (arith, image_size, small))) in
-        subst (λ (y : Result Kind Fault). Followed y (IsKept Packet file) (Ok exchanged_image)) (sym there_is)
-        (image_told Packet file (Ok exchanged_image) (Ok exchanged_image) kind_now is_image within)
+    pub exchanged_loaded : length old ≤ file_limit → length now ≤ packet_limit → IsLoaded Packet (Some file) (Ok exchanged_image)
+    exchanged_loaded small short = image_loaded file x.tiff walked_now kind_now (record { at = payload.at; bytes = now }) new_packet (omega (arith, image_size, small)) short
 
     -- and read as its tree
     pub image_holds : (declared : List Hint) (t : Parts) → length old ≤ file_limit → length now ≤ packet_limit → PacketMeans now declared t None → HoldsTree (Some file) t
-    image_holds declared t small short h =
-        let meaning : Meaning = meant now declared t None h.means in
-        let opened : Opened = record { meaning = meaning; joined = false } in
-        let is_opened : IsOpened exchanged_image (Ok opened) = (Ok meaning, opens now declared t None h, refl) in
-        (opened, (Ok exchanged_image, image_loaded small short, is_opened), h.means.tree_is 100 (omega arith))
+    image_holds declared t small short h = image_read file x.tiff walked_now kind_now (record { at = payload.at; bytes = now }) new_packet declared t (omega (arith, image_size, small)) short h

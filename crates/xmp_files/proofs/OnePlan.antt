@@ -3,19 +3,20 @@ use Rattle.std.proofs.Common.{◌≡◌, ◌∙◌, ℕ, ◌+◌, arith, List, [
 use Rattle.std.specs.declared.result.Result.{Result}
 use Rattle.xmp_values.specs.declared.faults.Fault.{Fault}
 use Rattle.xmp_values.specs.declared.hints.Hint.{Hint}
-use Rattle.xmp_values.specs.declared.rules.Rule.TheVariants.{NoFile, NotBuilt}
+use Rattle.xmp_values.specs.declared.rules.Rule.TheVariants.{NoFile}
 use Rattle.xmp_tree.specs.Parts.{Parts}
 use Rattle.jpeg_regions.specs.Jpeg.{Region}
 use Rattle.jpeg_extended.specs.Written.{name_text}
 use Rattle.jpeg_relocation.proofs.Names.{name_capitals}
 use Rattle.xmp_base.specs.declared.file_span.FileSpan.{FileSpan}
 use Rattle.xmp_files.specs.Keeping.{Container, Text, Segments, Directories, Kept}
-use Rattle.xmp_files.specs.Faults.{file_limit, packet_limit, over_packet, over_extended, not_built}
+use Rattle.xmp_files.specs.Faults.{file_limit, packet_limit, over_packet, over_extended}
 use Rattle.std.specs.Prelude.{nat_lt}
 use Rattle.jpeg_relocation.specs.declared.pictures.MovedPictures.{MovedPictures}
 use Rattle.jpeg_relocation.specs.Pictures.{moved_pictures}
+use Rattle.tiff_relocation.specs.Relocation.{lacks_room, packet_place, tells}
 use Rattle.xmp_files.specs.Planning.{Edited, Part, parts_len, Plan, Relocated}
-use Rattle.xmp_files.specs.Plans.{put_among, put_both, rest_text, front_packet, over_segment, IsDivided, after_pictures, over_out, unless_moved, parts_around, segments_text, segment_padded, packet_of, IsRelocation, OrRelocation, IsPlanned, unmoved, needs_relocation, padding, least_of, told, room_of, fits, stays}
+use Rattle.xmp_files.specs.Plans.{put_among, put_both, rest_text, front_packet, over_segment, over_entries, over_offsets, appended_parts, within_out, IsDivided, after_pictures, over_out, unless_moved, parts_around, segments_text, segment_padded, packet_of, IsRelocation, OrRelocation, IsPlanned, unmoved, needs_relocation, padding, least_of, told, room_of, fits, stays}
 
 one_divided : (regions : List Region) (portions : List FileSpan) (t : Parts) (hints : List Hint) (a b : Result Plan Fault) → IsDivided regions portions t hints a → IsDivided regions portions t hints b → a ≡ b
 one_divided regions portions t hints a b (inl (k, s, p)) (inl (m, u, q)) =
@@ -69,17 +70,21 @@ divided_there regions portions t hints fault (inl (k, s, h)) rule =
     both_there (nat_lt packet_limit (length rest)) regions portions (segments_text (front_packet t hints k) (Some rest)) (over_extended (told (length rest))) fault (λ x. cc) h rule
 divided_there regions portions t hints fault (inr (least, n, h)) rule = named_there fault (over_segment least) (λ x. cc) h rule
 
-unbuilt_there : (fault : Fault) → (let r : Result Plan Fault = Err fault in r) ≡ Err not_built → fault.rule ≡ NoFile → ⊥
-unbuilt_there fault h rule =
-    let is : fault ≡ not_built = cc h in
-    let bad : NotBuilt ≡ NoFile = sym (ap (λ (f : Fault). f.rule) is) ∙ rule in cc bad
+last_there : (lacks fits : Bool) (f g fault : Fault) (parts : List Part) → (f.rule ≡ NoFile → ⊥) → (g.rule ≡ NoFile → ⊥)
+    → (let r : Result Plan Fault = Err fault in r) ≡ (if lacks then Err f else (if fits then within_out parts else Err g)) → fault.rule ≡ NoFile → ⊥
+last_there true fits f g fault parts not_f not_g h rule = named_there fault f not_f h rule
+last_there false true f g fault parts not_f not_g h rule = among_there None parts fault h rule
+last_there false false f g fault parts not_f not_g h rule = named_there fault g not_g h rule
 
 relocation_there : (container : Container) (portions : List FileSpan) (e : Edited) (fault : Fault) → IsRelocation container portions e (Err fault) → fault.rule ≡ NoFile → ⊥
 relocation_there Text portions e fault h rule = cc h
 relocation_there (Segments regions) portions e fault (inl h) rule =
     let new : List ℕ = segments_text (packet_of e (segment_padded (least_of e))) None in among_there (moved_pictures portions regions (length new)) (parts_around regions portions new) fault h.1 rule
 relocation_there (Segments regions) portions e fault (inr h) rule = divided_there regions portions e.new e.hints fault h.1 rule
-relocation_there (Directories size tiff) portions e fault h rule = unbuilt_there fault h rule
+relocation_there (Directories size tiff) portions e fault h rule =
+    let packet : List ℕ = packet_of e (least_of e + padding) in
+    last_there (lacks_room tiff) (tells tiff.layout (packet_place size tiff + length packet)) over_entries (over_offsets (packet_place size tiff + length packet)) fault (appended_parts size tiff packet)
+    (λ x. cc) (λ x. cc) h rule
 
 moved_there : (over fit patch : Bool) (f g : Fault) (inside : Plan) (container : Container) (portions : List FileSpan) (e : Edited) (fault : Fault) → (f.rule ≡ NoFile → ⊥) → (g.rule ≡ NoFile → ⊥)
     → OrRelocation (if over then Some (Err f) else (if fit then Some (Ok inside) else (if patch then Some (Err g) else None))) container portions e (Err fault) → fault.rule ≡ NoFile → ⊥

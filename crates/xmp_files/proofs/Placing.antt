@@ -9,7 +9,9 @@ use Rattle.xmp_values.specs.declared.hints.Hint.{Hint}
 use Rattle.xmp_write.specs.declared.forms.Form.{Form}
 use Rattle.xmp_write.specs.Prefixes.{prefixes}
 use Rattle.xmp_write.specs.WrittenPackets.{least_len, packet}
-use Rattle.xmp_files.specs.Faults.{packet_limit, not_built}
+use Rattle.xmp_files.specs.Faults.{packet_limit}
+use Rattle.tiff_dirs.specs.Tiff.{Tiff}
+use Rattle.xmp_files.specs.Loads.{ContainerLies}
 use Rattle.std.specs.declared.option.Option.{Option}
 use Rattle.std.specs.Option.{option_copied}
 use denote.Ref.{Bor}
@@ -22,8 +24,8 @@ use Rattle.jpeg_regions.specs.Jpeg.{Region}
 use Rattle.jpeg_relocation.specs.NewSegments.{main_limit}
 use Rattle.xmp_files.specs.declared.plans.Exchange.{Exchange}
 use Rattle.xmp_files.specs.Planning.{Edited, New, Plan, Same, InPlace, Relocated}
-use Rattle.xmp_files.specs.Plans.{packet_of, room_of, put_over, told, padding, least_of, whole_form, unmoved, IsDivided, IsRelocation, OrRelocation, IsMoved, IsPlanned, stays, fits, exchanged, digest_pieces, put_among, segment_padded, segments_text}
-use Rattle.xmp_files.specs.Planneds.{AmongAnswer, DivideAnswer, MoveAnswer, PlanAnswer, plan_of}
+use Rattle.xmp_files.specs.Plans.{packet_of, room_of, put_over, told, padding, least_of, whole_form, unmoved, IsDivided, IsRelocation, OrRelocation, IsMoved, IsPlanned, stays, fits, exchanged, digest_pieces, put_among, put_last, segment_padded, segments_text}
+use Rattle.xmp_files.specs.Planneds.{AmongAnswer, DivideAnswer, LastAnswer, MoveAnswer, PlanAnswer, plan_of}
 
 -- an option of a reference
 pub copied_some : {T : Type 0} (o : Option (Bor T)) → is_some (option_copied o) ≡ is_some o
@@ -100,12 +102,14 @@ anew_relocation Text portions e padded bytes none text padded_is is = ap (λ (l 
 anew_relocation (Segments regions) portions e padded bytes none text padded_is is = absurd (cc text)
 anew_relocation (Directories size tiff) portions e padded bytes none text padded_is is = absurd (cc none)
 
--- a TIFF file isn't relocated yet
-image_relocation : (container : Container) (portions : List FileSpan) (e : Edited) (fault : Fault) → is_some (directories_in container) ≡ true → fault ≡ not_built
-    → IsRelocation container portions e (Err fault)
-image_relocation Text portions e fault dirs is = absurd (cc dirs)
-image_relocation (Segments regions) portions e fault dirs is = absurd (cc dirs)
-image_relocation (Directories size tiff) portions e fault dirs is = ap (λ (f : Fault). let r : Result Plan Fault = Err f in r) is
+-- the packet is put at the end of a TIFF file
+last_relocation : (container : Container) (portions : List FileSpan) (e : Edited) (size : ℕ) (tiff : Tiff) (step : Result Plan Fault) → directories_in container ≡ Some tiff → ContainerLies size container portions
+    → step ≡ put_last size tiff (packet_of e (least_of e + padding)) → IsRelocation container portions e step
+last_relocation Text portions e size tiff step dirs lies is = absurd (cc dirs)
+last_relocation (Segments regions) portions e size tiff step dirs lies is = absurd (cc dirs)
+last_relocation (Directories len other) portions e size tiff step dirs lies is =
+    let same : other ≡ tiff = (let h : Some other ≡ Some tiff = dirs in cc) in
+    is ∙ (λ i. put_last (sym lies i) (sym same i) (packet_of e (least_of e + padding)))
 
 divided_relocation : (container : Container) (portions : List FileSpan) (e : Edited) (regions : List Region) (step : Result Plan Fault) → regions_in container ≡ Some regions → main_limit < least_of e
     → IsDivided regions portions e.new e.hints step → IsRelocation container portions e step
@@ -145,11 +149,25 @@ module _ (payload : Option Piece) (container : Container) (portions : List FileS
       (not_fitting payload container portions joined e least (Ok (Relocated (New bytes ∷ []))) numbers.0 numbers.1 fit
       (anew_relocation container portions e padded bytes none text (padded_small (least_of e) least padded numbers.0 numbers.1 padded_is) (is ∙ same))))
 
-  -- a TIFF file isn't relocated yet
-  pub image_moved : (fault : Fault) → is_some (directories_in container) ≡ true → fault ≡ not_built → IsMoved payload container portions joined patch e (Err fault)
-  image_moved fault dirs is =
-      subst (λ (b : Bool). IsMoved payload container portions joined b e (Err fault)) (sym anew)
-      (not_fitting payload container portions joined e least (Err fault) numbers.0 numbers.1 fit (image_relocation container portions e fault dirs is))
+  -- the packet is put at the end of a TIFF file
+  last_moved : (size : ℕ) (tiff : Tiff) (step : Result Plan Fault) → directories_in container ≡ Some tiff → ContainerLies size container portions → step ≡ put_last size tiff (packet ps e.new form padded)
+      → IsMoved payload container portions joined patch e step
+  last_moved size tiff step dirs lies is =
+      let same : packet ps e.new form padded ≡ packet_of e (least_of e + padding) =
+      rw (ps_is, form_is) (ap (packet_of e) (padded_small (least_of e) least padded numbers.0 numbers.1 padded_is)) in
+      subst (λ (b : Bool). IsMoved payload container portions joined b e step) (sym anew)
+      (not_fitting payload container portions joined e least step numbers.0 numbers.1 fit
+      (last_relocation container portions e size tiff step dirs lies (is ∙ ap (put_last size tiff) same)))
+
+  pub last_answer : (size : ℕ) (tiff : Tiff) (result : Result Exchange FaultStop) → directories_in container ≡ Some tiff → ContainerLies size container portions → LastAnswer size tiff (packet ps e.new form padded) result
+      → MoveAnswer payload container portions joined patch e result
+  last_answer size tiff (Ok exchange) dirs lies is = last_moved size tiff (Ok (plan_of exchange)) dirs lies is
+  last_answer size tiff (Err (faults.Fault fault)) dirs lies is = last_moved size tiff (Err fault) dirs lies is
+  last_answer size tiff (Err faults.Memory) dirs lies is = tt
+
+  -- the padded length has room for the packet
+  pub padded_room : least_len ps e.new form ≤ padded
+  padded_room = omega (arith, padded_small (least_of e) least padded numbers.0 numbers.1 padded_is, lens)
 
   -- a tree that is too long for a segment is divided
   divided_moved : (regions : List Region) (step : Result Plan Fault) → regions_in container ≡ Some regions → main_limit < least → IsDivided regions portions e.new e.hints step

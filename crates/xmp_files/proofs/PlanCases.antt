@@ -6,15 +6,17 @@ use Rattle.std.proofs.lemmas.Bool.{and_parts, leb-true, ltb-false}
 use Rattle.xmp_values.specs.declared.faults.Fault.{Fault}
 use Rattle.xmp_packets.specs.Packets.{is_writable}
 use Rattle.xmp_write.specs.Splits.{IsSplit}
-use Rattle.xmp_files.specs.Faults.{file_limit, packet_limit, over_packet, over_extended, not_built}
+use Rattle.xmp_files.specs.Faults.{file_limit, packet_limit, over_packet, over_extended}
 use Rattle.xmp_files.specs.Keeping.{Piece, Container, Text, Segments, Directories, Kept}
 use Rattle.xmp_base.specs.declared.file_span.FileSpan.{FileSpan}
 use Rattle.jpeg_regions.specs.Jpeg.{Region}
 use Rattle.jpeg_relocation.specs.declared.pictures.MovedPictures.{MovedPictures}
 use Rattle.jpeg_relocation.specs.NewSegments.{main_limit}
 use Rattle.jpeg_relocation.specs.Pictures.{moved_pictures}
+use Rattle.tiff_dirs.specs.Tiff.{Tiff}
+use Rattle.tiff_relocation.specs.Relocation.{lacks_room, packet_place, tells}
 use Rattle.xmp_files.specs.Planning.{Edited, Part, New, parts_len, Plan, Same, InPlace, Relocated}
-use Rattle.xmp_files.specs.Plans.{IsRelocation, OrRelocation, IsEdited, IsPlanned, packet_of, least_of, padding, stays, fits, fits_payload, exchanged, digest_pieces, whole_form, told, needs_relocation, room_of, after_pictures, over_out, parts_around, unless_moved, put_among, segment_padded, segments_text, rest_text, front_packet, over_segment, IsDivided, IsRelocated}
+use Rattle.xmp_files.specs.Plans.{IsRelocation, OrRelocation, IsEdited, IsPlanned, packet_of, least_of, padding, stays, fits, fits_payload, exchanged, digest_pieces, whole_form, told, needs_relocation, room_of, after_pictures, over_out, parts_around, unless_moved, put_among, segment_padded, segments_text, rest_text, front_packet, over_segment, over_entries, over_offsets, appended_parts, within_out, IsDivided, IsRelocated}
 use Rattle.xmp_files.proofs.PacketLengths.{length-packet}
 
 -- the packet of a plan that exchanges it
@@ -49,6 +51,17 @@ pub record IsBoth (container : Container) (portions : List FileSpan) (e : Edited
   pub short : length (rest_text e.new e.hints count) ≤ packet_limit
   pub is : plan ≡ Relocated (parts_around regions portions (segments_text (front_packet e.new e.hints count) (Some (rest_text e.new e.hints count))))
   pub within : parts_len (parts_around regions portions (segments_text (front_packet e.new e.hints count) (Some (rest_text e.new e.hints count)))) ≤ file_limit
+
+-- a TIFF file that is relocated, with the packet at its end
+pub record IsLast (container : Container) (e : Edited) (plan : Plan) : Type 0 where
+  pub size : ℕ
+  pub tiff : Tiff
+  pub images : container ≡ Directories size tiff
+  pub small : least_of e + padding ≤ packet_limit
+  pub room : lacks_room tiff ≡ false
+  pub tells : tells tiff.layout (packet_place size tiff + length (packet_of e (least_of e + padding))) ≡ true
+  pub is : plan ≡ Relocated (appended_parts size tiff (packet_of e (least_of e + padding)))
+  pub within : parts_len (appended_parts size tiff (packet_of e (least_of e + padding))) ≤ file_limit
 
 -- The bytes stay, with no piece at all in a place of theirs, where the tree does; a tree that changes has its packet exchanged, or a new
 -- file.
@@ -114,11 +127,23 @@ among_of regions portions e plan (inl h) =
     inl (record { regions = regions; segments = refl; fits = h.0; is = c.1; within = c.0 })
 among_of regions portions e plan (inr h) = inr (divided_of regions portions e plan h.0 h.1)
 
+last_by : (lacks fits : Bool) (f g : Fault) (parts : List Part) (plan : Plan) → Ok plan ≡ (if lacks then Err f else (if fits then within_out parts else Err g))
+    → (lacks ≡ false) × (fits ≡ true) × (parts_len parts ≤ file_limit) × (plan ≡ Relocated parts)
+last_by true fits f g parts plan h = absurd (cc h)
+last_by false false f g parts plan h = absurd (cc h)
+last_by false true f g parts plan h = let c = among_by (nat_lt file_limit (parts_len parts)) parts (over_out (told (parts_len parts))) plan refl h in (refl, refl, c.0, c.1)
+
+last_of : (size : ℕ) (tiff : Tiff) (e : Edited) (plan : Plan) → least_of e + padding ≤ packet_limit → IsRelocation (Directories size tiff) [] e (Ok plan) → IsLast (Directories size tiff) e plan
+last_of size tiff e plan within h =
+    let packet : List ℕ = packet_of e (least_of e + padding) in
+    let c = last_by (lacks_room tiff) (tells tiff.layout (packet_place size tiff + length packet)) over_entries (over_offsets (packet_place size tiff + length packet)) (appended_parts size tiff packet) plan h in
+    record { size = size; tiff = tiff; images = refl; small = within; room = c.0; tells = c.1; is = c.3; within = c.2 }
+
 anew_of : (container : Container) (portions : List FileSpan) (e : Edited) (plan : Plan) → least_of e + padding ≤ packet_limit → IsRelocation container portions e (Ok plan)
-    → IsAnew container e plan ⊎ (IsAmong container portions e plan ⊎ IsBoth container portions e plan)
+    → IsAnew container e plan ⊎ (IsAmong container portions e plan ⊎ (IsBoth container portions e plan ⊎ IsLast container e plan))
 anew_of Text portions e plan within h = inl (record { text = refl; within = within; is = let is : Ok plan ≡ Ok (Relocated (New (packet_of e (least_of e + padding)) ∷ [])) = h in cc })
-anew_of (Segments regions) portions e plan within h = inr (among_of regions portions e plan h)
-anew_of (Directories size tiff) portions e plan within h = absurd (let bad : Ok plan ≡ Err not_built = h in cc)
+anew_of (Segments regions) portions e plan within h = elim (among_of regions portions e plan h) [ | inl x ↦ inr (inl x) | inr x ↦ inr (inr (inl x)) ]
+anew_of (Directories size tiff) portions e plan within h = inr (inr (inr (last_of size tiff e plan within h)))
 
 -- how a changed tree comes to a plan
 moved_cases : (over fit patch : Bool) (f g : Fault) (inside : Plan) (container : Container) (portions : List FileSpan) (e : Edited) (plan : Plan)
@@ -139,7 +164,7 @@ edited_cases payload container portions joined patch e plan (inr h) =
     )
   where
     by_case : ((fits payload joined (least_of e) ≡ true) × (plan ≡ InPlace (exchanged payload e ++ digest_pieces container e.digest)))
-        ⊎ ((nat_lt packet_limit (least_of e + padding) ≡ false) × IsRelocation container portions e (Ok plan)) → IsExchange payload e plan ⊎ (IsAnew container e plan ⊎ (IsAmong container portions e plan ⊎ IsBoth container portions e plan))
+        ⊎ ((nat_lt packet_limit (least_of e + padding) ≡ false) × IsRelocation container portions e (Ok plan)) → IsExchange payload e plan ⊎ (IsAnew container e plan ⊎ (IsAmong container portions e plan ⊎ (IsBoth container portions e plan ⊎ IsLast container e plan)))
     by_case (inl c) = inl (exchange_of payload container joined e plan c.0 c.1)
     by_case (inr c) = inr (anew_of container portions e plan (ltb-false packet_limit (least_of e + padding) c.0) c.1)
 

@@ -22,6 +22,10 @@ use Rattle.jpeg_relocation.specs.Pictures.{moved_pictures}
 use Rattle.xmp_files.specs.declared.parts.FilePart.{FilePart}
 use Rattle.xmp_files.specs.declared.parts.FilePart.TheVariants as kept
 use Rattle.xmp_files.specs.Faults.{file_limit}
+use Rattle.xmp_values.specs.declared.stops.FaultStop.{FaultStop}
+use Rattle.xmp_values.specs.declared.stops.FaultStop.TheVariants as faults
+use Rattle.xmp_files.specs.declared.plans.Exchange.{Exchange}
+use Rattle.xmp_files.specs.Planneds.{AmongAnswer, PartsAnswer}
 use Rattle.xmp_files.specs.Keeping.{Container, Text, Segments, Directories, regions_in}
 use Rattle.xmp_files.specs.Loads.{ContainerLies}
 use Rattle.xmp_files.specs.NewFiles.{part_at, parts_at, range_of, PartLies, old_parts, kept_parts}
@@ -48,29 +52,33 @@ module _ (regions : List Region) (joined : List FileSpan) (bytes : List ℕ) whe
       ap (λ (f : Fault). let r : Result Plan Fault = Err f in r) fault_is ∙ sym (ap (λ (o : Option MovedPictures). unless_moved o (parts_around regions joined bytes)) is)
 
   module _ (none : moved_pictures joined regions (length bytes) ≡ None) (parts : List FilePart)
-      (parts_are : parts ≡ kept_parts (runs (before joined regions)) (runs (after joined regions)) (length bytes)) (len : ℕ) (len_is : len ≡ told (parts_len (parts_at bytes parts))) where
+      (parts_are : parts ≡ kept_parts (runs (before joined regions)) (runs (after joined regions)) (length bytes)) where
     around_is : parts_at bytes parts ≡ parts_around regions joined bytes
     around_is = ap (parts_at bytes) parts_are ∙ kept_around bytes regions joined
 
     among_is : put_among regions joined bytes ≡ within_out (parts_at bytes parts)
     among_is = ap (λ (o : Option MovedPictures). unless_moved o (parts_around regions joined bytes)) none ∙ ap within_out (sym around_is)
 
-    pub among_over : (fault : Fault) → file_limit < len → fault ≡ over_out len → (let r : Result Plan Fault = Err fault in r) ≡ put_among regions joined bytes
-    among_over fault over fault_is =
-        let long : file_limit < parts_len (parts_at bytes parts) = omega (arith, over, len_is) in
-        let test : nat_lt file_limit (parts_len (parts_at bytes parts)) ≡ true = lt-ltb file_limit (parts_len (parts_at bytes parts)) long in
-        ap (λ (f : Fault). let r : Result Plan Fault = Err f in r) (fault_is ∙ ap over_out len_is)
-        ∙ sym (ap (λ (b : Bool). cond b (let r : Result Plan Fault = Err (over_out (told (parts_len (parts_at bytes parts)))) in r) (Ok (Relocated (parts_at bytes parts)))) test)
-        ∙ sym among_is
+    pub among_answer : (result : Result Exchange FaultStop) → PartsAnswer (parts_at bytes parts) result → AmongAnswer regions joined bytes result
+    among_answer (Ok exchange) is = is ∙ sym among_is
+    among_answer (Err (faults.Fault fault)) is = is ∙ sym among_is
+    among_answer (Err faults.Memory) is = tt
 
-    pub among_fits : len ≤ file_limit → len ≡ parts_len (parts_at bytes parts)
-    among_fits short = omega (arith, short, len_is)
+-- Parts that are a new file, by their length.
+module _ (parts : List Part) (len : ℕ) (len_is : len ≡ told (parts_len parts)) where
+  pub parts_over : (fault : Fault) → file_limit < len → fault ≡ over_out len → (let r : Result Plan Fault = Err fault in r) ≡ within_out parts
+  parts_over fault over fault_is =
+      let long : file_limit < parts_len parts = omega (arith, over, len_is) in
+      ap (λ (f : Fault). let r : Result Plan Fault = Err f in r) (fault_is ∙ ap over_out len_is)
+      ∙ sym (ap (λ (b : Bool). cond b (let r : Result Plan Fault = Err (over_out (told (parts_len parts))) in r) (Ok (Relocated parts))) (lt-ltb file_limit (parts_len parts) long))
 
-    pub among_put : len ≤ file_limit → (let r : Result Plan Fault = Ok (Relocated (parts_at bytes parts)) in r) ≡ put_among regions joined bytes
-    among_put short =
-        let test : nat_lt file_limit (parts_len (parts_at bytes parts)) ≡ false = le-ltb file_limit (parts_len (parts_at bytes parts)) (omega (arith, short, among_fits short)) in
-        sym (ap (λ (b : Bool). cond b (let r : Result Plan Fault = Err (over_out (told (parts_len (parts_at bytes parts)))) in r) (Ok (Relocated (parts_at bytes parts)))) test)
-        ∙ sym among_is
+  pub parts_fit : len ≤ file_limit → len ≡ parts_len parts
+  parts_fit short = omega (arith, short, len_is)
+
+  pub parts_put : len ≤ file_limit → (let r : Result Plan Fault = Ok (Relocated parts) in r) ≡ within_out parts
+  parts_put short =
+      let test : nat_lt file_limit (parts_len parts) ≡ false = le-ltb file_limit (parts_len parts) (omega (arith, short, parts_fit short)) in
+      sym (ap (λ (b : Bool). cond b (let r : Result Plan Fault = Err (over_out (told (parts_len parts))) in r) (Ok (Relocated parts))) test)
 
 -- What the code adds.
 

@@ -91,12 +91,15 @@ classic_begins file h =
       | inr e ↦ inr (inl (front_is file (codes "MM" ++ 0x00 ∷ 0x2A ∷ []) refl e))
     ]
 
-big_begins : (file : List ℕ) → is_big_tiff (take 16 file) ≡ true → BeginsTiff file
-big_begins file h =
+pub big_fronts : (file : List ℕ) → is_big_tiff (take 16 file) ≡ true → (take 4 file ≡ 0x49 ∷ 0x49 ∷ 0x2B ∷ 0 ∷ []) ⊎ (take 4 file ≡ 0x4D ∷ 0x4D ∷ 0 ∷ 0x2B ∷ [])
+big_fronts file h =
     elim (or_cases (begins (take 16 file) (codes "II" ++ 0x2B ∷ 0x00 ∷ [])) (begins (take 16 file) (codes "MM" ++ 0x00 ∷ 0x2B ∷ [])) h) [
-      | inl e ↦ inr (inr (inl (front_is file (codes "II" ++ 0x2B ∷ 0x00 ∷ []) refl e)))
-      | inr e ↦ inr (inr (inr (front_is file (codes "MM" ++ 0x00 ∷ 0x2B ∷ []) refl e)))
+      | inl e ↦ inl (front_is file (codes "II" ++ 0x2B ∷ 0x00 ∷ []) refl e)
+      | inr e ↦ inr (front_is file (codes "MM" ++ 0x00 ∷ 0x2B ∷ []) refl e)
     ]
+
+big_begins : (file : List ℕ) → is_big_tiff (take 16 file) ≡ true → BeginsTiff file
+big_begins file h = elim (big_fronts file h) [ | inl e ↦ inr (inr (inl e)) | inr e ↦ inr (inr (inr e)) ]
 
 -- the kind of a file of directories
 abbrev pub IsImageKind : List ℕ → Type 0
