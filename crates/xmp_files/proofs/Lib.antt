@@ -32,3 +32,7 @@ pub mod OpenPackets
 pub mod WrittenPhotographs
 pub mod Agreeing
 pub mod ClosedPackets
+pub mod HeldImages
+pub mod AppendedImages
+pub mod LastParts
+pub mod WrittenImages

@@ -16,18 +16,25 @@ use Rattle.jpeg_regions.specs.Jpeg.{Region, Jpeg as IsJpeg}
 use Rattle.jpeg_extended.specs.Written.{name_text}
 use Rattle.jpeg_relocation.specs.NewSegments.{main_limit}
 use Rattle.jpeg_relocation.specs.Laws.{NoStray as HasNoStray, new_file}
+use Rattle.tiff_dirs.specs.Tiff.{Tiff}
+use Rattle.tiff_dirs.specs.Model.{IsTiff}
+use Rattle.tiff_relocation.specs.Relocation.{packet_place, relocated, tells}
+use Rattle.tiff_relocation.specs.Apart.{IsApart}
+use Rattle.tiff_relocation.specs.Moves.{Lies, relocation_of}
 use Rattle.xmp_files.specs.Planning.{Edited, Plan, Same, InPlace, Relocated, Agree, Frame, KeepsPictures, parts_bytes, parts_len, planned_file}
-use Rattle.xmp_files.specs.Plans.{packet_of, least_of, padding, whole_form, segment_padded, segments_text, parts_around, rest_text, named_front, front_least, front_packet, planned_len, MayPlan, Apart, NoStray}
+use Rattle.xmp_files.specs.Plans.{packet_of, least_of, padding, whole_form, segment_padded, segments_text, parts_around, rest_text, named_front, front_least, front_packet, appended_parts, planned_len, MayPlan, Apart, NoStray}
 use Rattle.xmp_files.specs.Written.{FileIsWritten}
 use Rattle.xmp_files.proofs.Agreeing.{put_agrees}
 use Rattle.xmp_files.proofs.ExchangedPackets.{Stands, loaded_stands, same_piece, whole_piece}
-use Rattle.xmp_files.proofs.LoadedKept.{IsSidecarOf, IsPhotographOf, LoadedAs, loaded_as, loaded_small}
+use Rattle.xmp_files.proofs.LoadedKept.{IsSidecarOf, IsPhotographOf, IsImageOf, LoadedAs, loaded_as, loaded_small}
 use Rattle.xmp_files.proofs.OpenPackets.{writable_some, writable_long}
 use Rattle.xmp_files.proofs.PacketLengths.{length-packet, over_all}
-use Rattle.xmp_files.proofs.PlanCases.{IsExchange, IsAnew, IsAmong, IsBoth, Becomes, planned_cases}
+use Rattle.xmp_files.proofs.PlanCases.{IsExchange, IsAnew, IsAmong, IsBoth, IsLast, Becomes, planned_cases}
 use Rattle.xmp_files.proofs.DividedTexts.{front_may, rest_may, front_limited, rest_some}
 use Rattle.xmp_files.proofs.RelocatedPhotographs.{around_bytes, around_len, relocated_holds, both_hold, keeps_regions}
 use Rattle.xmp_files.proofs.ExchangedImages.{image_holds}
+use Rattle.xmp_files.proofs.AppendedImages.{appended_bytes, appended_len}
+use Rattle.xmp_files.proofs.WrittenImages.{lies, new_holds, new_keeps}
 use Rattle.xmp_files.proofs.WrittenPhotographs.{photograph_holds}
 use Rattle.xmp_files.proofs.WrittenSidecars.{sidecar_reads_back}
 
@@ -202,6 +209,67 @@ module _ (need : Need) (old : List ℕ) (kept : Kept) (e : Edited) (plan : Plan)
   both_by (inr (inl p)) = both_good p
   both_by (inr (inr i)) = absurd (let bad : Segments x.regions ≡ Directories (length old) i.is.tiff = sym x.segments ∙ ap (λ (k : Kept). k.container) i.is.is in cc bad)
 
+-- A TIFF file is relocated.
+module _ (need : Need) (old : List ℕ) (kept : Kept) (e : Edited) (plan : Plan) (loaded : IsLoaded need (Some old) (Ok kept)) (may : MayWrite e.new e.hints (whole_form e.new))
+    (x : IsLast kept.container e plan) where
+  abbrev last : List ℕ
+  last = packet_of e (least_of e + padding)
+
+  last_len : length last ≡ least_of e + padding
+  last_len = length-packet (prefixes e.new e.hints (whole_form e.new)) e.new (whole_form e.new) (least_of e + padding) (omega arith)
+
+  module _ (i : IsImageOf need old kept) where
+    same_container : Directories x.size x.tiff ≡ Directories (length old) i.is.tiff
+    same_container = sym x.images ∙ ap (λ (k : Kept). k.container) i.is.is
+
+    walked : IsTiff old x.tiff
+    walked = let same : x.tiff ≡ i.is.tiff = cc same_container in subst (IsTiff old) (sym same) i.is.walked
+
+    size_is : x.size ≡ length old
+    size_is = cc same_container
+
+    small : length old ≤ file_limit
+    small = loaded_small need old kept loaded
+
+    placed_lies : Lies (relocation_of (length old) x.tiff)
+    placed_lies = lies old x.tiff walked small last
+
+    abbrev new_last : List ℕ
+    new_last = relocated old x.tiff last
+
+    bytes_last : parts_bytes old (appended_parts x.size x.tiff last) ≡ new_last
+    bytes_last = ap (λ (n : ℕ). parts_bytes old (appended_parts n x.tiff last)) size_is ∙ appended_bytes old x.tiff last placed_lies
+
+    len_last : length new_last ≡ parts_len (appended_parts x.size x.tiff last)
+    len_last = appended_len old x.tiff last placed_lies ∙ ap (λ (n : ℕ). parts_len (appended_parts n x.tiff last)) (sym size_is)
+
+    fits_last : tells x.tiff.layout (packet_place (length old) x.tiff + length last) ≡ true
+    fits_last = ap (λ (n : ℕ). tells x.tiff.layout (packet_place n x.tiff + length last)) (sym size_is) ∙ x.tells
+
+    apart_in : (container : Container) → container ≡ Directories x.size x.tiff → Apart container → IsApart x.tiff
+    apart_in Text is apart = absurd (cc is)
+    apart_in (Segments regions) is apart = absurd (cc is)
+    apart_in (Directories size tiff) is apart = let same : tiff ≡ x.tiff = (let h : Directories size tiff ≡ Directories x.size x.tiff = is in cc) in subst IsApart same apart
+
+    last_good : GoodUnstrayed kept old e plan
+    last_good =
+        let long : 8 < length last = omega (arith, last_len) in
+        let short : length last ≤ packet_limit = omega (arith, last_len, x.small) in
+        let within : length new_last ≤ file_limit = omega (arith, len_last, x.within) in
+        subst (GoodUnstrayed kept old e) (sym x.is) (
+          λ apart stray. subst (λ (file : List ℕ). HoldsTree (Some file) e.new) (sym bytes_last)
+              (new_holds old x.tiff walked small last long short within x.room fits_last i.kind (apart_in kept.container x.images apart) (text_hints e.new e.hints (whole_form e.new)) e.new
+              (packet_reads_back e.new e.hints (least_of e + padding) may)),
+          subst (λ (file : List ℕ). KeepsPictures kept.container kept.portions old file) (sym bytes_last)
+              (subst (λ (c : Container). KeepsPictures c kept.portions old new_last) (sym x.images) (new_keeps old x.tiff walked small last long short within x.room fits_last)),
+          ap length bytes_last ∙ len_last,
+        )
+
+  last_by : LoadedAs need old kept → GoodUnstrayed kept old e plan
+  last_by (inl s) = absurd (let bad : Directories x.size x.tiff ≡ Text = sym x.images ∙ ap (λ (k : Kept). k.container) s.is in cc bad)
+  last_by (inr (inl p)) = absurd (let bad : Directories x.size x.tiff ≡ Segments p.is.regions = sym x.images ∙ ap (λ (k : Kept). k.container) p.is.is in cc bad)
+  last_by (inr (inr i)) = last_good i
+
 pub file_written : FileIsWritten
 file_written need old kept joined patch e plan loaded planned holds may = by_case (planned_cases kept joined patch e plan planned)
   where
@@ -210,4 +278,5 @@ file_written need old kept joined patch e plan loaded planned holds may = by_cas
     by_case (inr (differs, inl x)) = always kept old e plan (exchange_good need old kept e plan loaded (may differs).whole x)
     by_case (inr (differs, inr (inl x))) = always kept old e plan (anew_good kept old e plan (may differs).whole x)
     by_case (inr (differs, inr (inr (inl x)))) = always kept old e plan (among_by need old kept e plan loaded (may differs).whole x (loaded_as need old kept loaded))
-    by_case (inr (differs, inr (inr (inr x)))) = both_by need old kept e plan loaded (may differs) x (loaded_as need old kept loaded)
+    by_case (inr (differs, inr (inr (inr (inr x))))) = last_by need old kept e plan loaded (may differs).whole x (loaded_as need old kept loaded)
+    by_case (inr (differs, inr (inr (inr (inl x))))) = both_by need old kept e plan loaded (may differs) x (loaded_as need old kept loaded)
