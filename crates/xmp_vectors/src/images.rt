@@ -11,7 +11,7 @@ const LINES: &str = "about \ndc:format text image/jpeg\n";
 
 /// A strip of 4 bytes. The header's offset, of the directory before the strip, is another one where the directory
 /// was written anew behind it.
-fn strip(offset: u8) -> [u8; 42] {
+pub fn strip(offset: u8) -> [u8; 42] {
     [
         b'M', b'M', 0, 42, 0, 0, 0, offset, // header
         0, 2, // two entries
@@ -23,7 +23,7 @@ fn strip(offset: u8) -> [u8; 42] {
 }
 
 /// The directory of that strip with an entry of a packet of 2,376 bytes, which stands behind it.
-const DIRECTORY: [u8; 42] = [
+pub const DIRECTORY: [u8; 42] = [
     0, 3, // three entries
     0x01, 0x11, 0, 4, 0, 0, 0, 1, 0, 0, 0, 38, // the strip's offset
     0x01, 0x17, 0, 4, 0, 0, 0, 1, 0, 0, 0, 4, // its length
@@ -32,7 +32,7 @@ const DIRECTORY: [u8; 42] = [
 ];
 
 /// A TIFF file of 2,460 bytes with a packet of this text.
-fn image(alloc: Global, text: &str) -> Result<Vec<u8>, AllocError> {
+pub fn image(alloc: Global, text: &str) -> Result<Vec<u8>, AllocError> {
     let mut file = Vec::from_slice(alloc, &strip(42))?;
     file.extend_from_slice(&DIRECTORY)?;
     file.extend_from_slice(packet(alloc, text, 2048, "w")?.as_slice())?;

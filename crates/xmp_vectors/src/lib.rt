@@ -29,6 +29,8 @@ mod loading;
 #[cfg(test)]
 mod made_trees;
 #[cfg(test)]
+mod moved_images;
+#[cfg(test)]
 mod patching;
 #[cfg(test)]
 mod photographs;

@@ -32,7 +32,7 @@ fn apply(alloc: Global, file: &[u8], script: &[u8]) -> Result<Edited, Memory> {
 }
 
 /// These bytes, and after them as many letters as they are told.
-fn with_letters(alloc: Global, front: &[u8], count: usize) -> Result<Vec<u8>, AllocError> {
+pub fn with_letters(alloc: Global, front: &[u8], count: usize) -> Result<Vec<u8>, AllocError> {
     let mut bytes = Vec::from_slice(alloc, front)?;
     bytes.resize(front.len() + count.min(100_000), b'a')?;
     Ok(bytes)
@@ -46,7 +46,7 @@ fn count_of(file: &[u8], part: &[u8]) -> usize {
 }
 
 /// Whether the file begins so, has this length, and these bytes at this place.
-fn is_file(file: Option<&[u8]>, front: &[u8], len: usize, at: usize, piece: &[u8]) -> bool {
+pub fn is_file(file: Option<&[u8]>, front: &[u8], len: usize, at: usize, piece: &[u8]) -> bool {
     match file {
         Some(file) => {
             file.len() == len
@@ -200,7 +200,7 @@ fn a_file_that_would_be_too_long_is_refused(rt: HostRuntime) -> Result<(), Fail>
 
 /// Whether each call that fails in its turn is told, and leaves at most a beginning of the new file. The desk moves at most 8,192
 /// bytes a call.
-fn all_failures_told(
+pub fn all_failures_told(
     alloc: Global,
     words: &[&str],
     file: &[u8],
