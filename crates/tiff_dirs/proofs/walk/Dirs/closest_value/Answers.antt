@@ -9,5 +9,5 @@ use Rattle.tiff_dirs.proofs.walk.Dirs.closest_value.Goals as goal
 pub loop-i-preserved : goal.loop-i-preserved
 loop-i-preserved c =
     values_more c.args.own (apart_of c.args.self.now.layout) c.loop-i.best c.closer_value-best.result (entries_in (slice_get c.args.self.now.dirs c.args.dir)) c.loop-i.i c.args.to c.entry.result
-    c.entry.ensures (omega arith) (c.closer_value-best.ensures ∙ ap (λ l. closest c.args.own c.loop-i.best (apart_of l c.entry.result)) c.layout.ensures)
+    c.entry.ensures (omega arith) (c.closer_value-best.ensures ∙ ap (λ l. closest c.args.own c.loop-i.best (apart_of l c.entry.result)) c.layout.ensures.is)
     ∙ c.loop-i.invariant
