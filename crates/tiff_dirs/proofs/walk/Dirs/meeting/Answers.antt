@@ -31,7 +31,7 @@ returns-in-Some-best c =
     let best = c.closest_picture-best.result in
     let all : best ≡ closest mine None (others c.args.tag t) =
     whole mine t.layout c.args.tag t.dirs t.pictures c.closer-best.result c.closer-best-2.result c.closest_value-best.result c.closest_value-best-2.result c.closest_directory-best.result best
-    (span 0 c.layout.result.header) c.dir_span.result c.place_of-first.result c.entries-count.result (omega arith) (ap (λ l. span 0 l.header) c.layout.ensures) c.closer-best.ensures
+    (span 0 c.layout.result.header) c.dir_span.result c.place_of-first.result c.entries-count.result (omega arith) (ap (λ l. span 0 l.header) c.layout.ensures.is) c.closer-best.ensures
     c.dir_span.ensures c.closer-best-2.ensures c.place_of-first.ensures c.closest_value-best.ensures c.entries-count.ensures c.closest_value-best-2.ensures c.closest_directory-best.ensures
     c.closest_picture-best.ensures in
     let good : Best mine (others c.args.tag t) best = subst (Best mine (others c.args.tag t)) (sym all) (best_of mine (others c.args.tag t)) in
@@ -45,7 +45,7 @@ returns-in-None c =
     let best = c.closest_picture-best.result in
     let all : best ≡ closest mine None (others c.args.tag t) =
     whole mine t.layout c.args.tag t.dirs t.pictures c.closer-best.result c.closer-best-2.result c.closest_value-best.result c.closest_value-best-2.result c.closest_directory-best.result best
-    (span 0 c.layout.result.header) c.dir_span.result c.place_of-first.result c.entries-count.result (omega arith) (ap (λ l. span 0 l.header) c.layout.ensures) c.closer-best.ensures
+    (span 0 c.layout.result.header) c.dir_span.result c.place_of-first.result c.entries-count.result (omega arith) (ap (λ l. span 0 l.header) c.layout.ensures.is) c.closer-best.ensures
     c.dir_span.ensures c.closer-best-2.ensures c.place_of-first.ensures c.closest_value-best.ensures c.entries-count.ensures c.closest_value-best-2.ensures c.closest_directory-best.ensures
     c.closest_picture-best.ensures in
     let good : Best mine (others c.args.tag t) best = subst (Best mine (others c.args.tag t)) (sym all) (best_of mine (others c.args.tag t)) in
