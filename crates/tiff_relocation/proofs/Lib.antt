@@ -1,3 +1,4 @@
+pub mod Finding
 pub mod Lengths
 pub mod Lying
 pub mod Words
