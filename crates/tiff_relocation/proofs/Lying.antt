@@ -43,7 +43,7 @@ before_all es = prefix_len-le-length (λ (e : Entry). not (nat_lt 700 e.tag)) es
 even_most : (size : ℕ) → (size ≤ even size) × (even size ≤ size + 1)
 even_most size = (omega arith, omega arith)
 
-module _ (l : Layout) (w : Widths l) (file : List ℕ) (at : ℕ) (here : end_at l file at ≤ length file) (header : l.header ≤ length file) (short : length file ≤ 2 ^ 62) where
+module _ (l : Layout) (w : Widths l) (file : List ℕ) (at : ℕ) (here : end_at l file at ≤ length file) (header : l.header ≤ length file) (short : length file ≤ 2 ^ 60) where
   abbrev d : Dir
   d = dir_at l file at
 
@@ -78,7 +78,7 @@ module _ (l : Layout) (w : Widths l) (file : List ℕ) (at : ℕ) (here : end_at
       let size = w.entry in
       ((omega arith, omega (arith, stands.1, here, size)), (omega arith, omega arith), (omega arith, omega arith), omega (arith, even_is.1, short), omega arith)
 
-lies_at : (file offsets : List ℕ) → Walks file offsets → length file ≤ 2 ^ 62 → Lies (relocation_of (length file) (tiff_of file offsets))
+lies_at : (file offsets : List ℕ) → Walks file offsets → length file ≤ 2 ^ 60 → Lies (relocation_of (length file) (tiff_of file offsets))
 unfolding fault_at all_named
 lies_at file [] w short = absurd (let bad = w.all in cc)
 lies_at file (at ∷ rest) w short =
@@ -88,6 +88,6 @@ lies_at file (at ∷ rest) w short =
     let lies = lies_by l (layout_widths file) file at here w.header short (first_of_tag 700 (entries_at l file at)) refl in
     record { widths = layout_widths file; size = short; changed = lies.0; before = lies.1; after = lies.2; place = lies.3; behind = lies.4 }
 
-pub relocation_lies : (file : List ℕ) (tiff : Tiff) → IsTiff file tiff → length file ≤ 2 ^ 62 → Lies (relocation_of (length file) tiff)
+pub relocation_lies : (file : List ℕ) (tiff : Tiff) → IsTiff file tiff → length file ≤ 2 ^ 60 → Lies (relocation_of (length file) tiff)
 relocation_lies file tiff t short =
     subst (λ (x : Tiff). Lies (relocation_of (length file) x)) (sym t.found.is) (lies_at file t.found.offsets t.found.walks short)
