@@ -1,3 +1,6 @@
+pub mod Copied
+pub mod Grown
 pub mod Lengths
 pub mod Lying
+pub mod Plain
 pub mod Words
