@@ -1,4 +1,5 @@
 pub mod Copied
+pub mod CopyBytes
 pub mod Grown
 pub mod Lengths
 pub mod Lying

@@ -257,13 +257,14 @@ module _ (l : Layout) (a b : List ℕ) where
 
 -- Picture ranges that lie in the file.
 
+inside_span : (t : Bool) (len : ℕ) (p : Picture) (ps : List Picture) → nat_lt len p.range.end ≡ t → (pictures_fault len ps ≡ None → All (λ r. r.end ≤ len) (spans_of ps))
+    → (if t then broken RegionOut p.place else pictures_fault len ps) ≡ None → All (λ r. r.end ≤ len) (spans_of (p ∷ ps))
+inside_span true len p ps is more h = absurd (cc h)
+inside_span false len p ps is more h = All-cons (λ (r : FileSpan). r.end ≤ len) p.range (spans_of ps) (grind (arith, nat_tests, is)) (more h)
+
 pub spans_inside : (len : ℕ) (ps : List Picture) → pictures_fault len ps ≡ None → All (λ r. r.end ≤ len) (spans_of ps)
 spans_inside len [] e = All-nil (λ (r : FileSpan). r.end ≤ len)
-spans_inside len (p ∷ ps) e = by (nat_lt len p.range.end) refl e
-  where
-    by : (t : Bool) → nat_lt len p.range.end ≡ t → (if t then broken RegionOut p.place else pictures_fault len ps) ≡ None → All (λ r. r.end ≤ len) (spans_of (p ∷ ps))
-    by true is h = absurd (cc h)
-    by false is h = All-cons (λ (r : FileSpan). r.end ≤ len) p.range (spans_of ps) (grind (arith, nat_tests, is)) (spans_inside len ps h)
+spans_inside len (p ∷ ps) e = inside_span (nat_lt len p.range.end) len p ps refl (λ h. spans_inside len ps h) e
 
 pub spans_clear : (len more : ℕ) (ps : List Picture) → len ≤ more → All (λ r. r.end ≤ len) (spans_of ps) → pictures_fault more ps ≡ None
 spans_clear len more [] longer all = refl
