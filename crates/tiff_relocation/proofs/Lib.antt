@@ -3,5 +3,7 @@ pub mod CopyBytes
 pub mod Grown
 pub mod Lengths
 pub mod Lying
+pub mod NewFirst
 pub mod Plain
+pub mod Untouched
 pub mod Words
