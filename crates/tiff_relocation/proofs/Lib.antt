@@ -1,4 +1,10 @@
+pub mod Copied
+pub mod CopyBytes
 pub mod Finding
+pub mod Grown
 pub mod Lengths
 pub mod Lying
+pub mod NewFirst
+pub mod Plain
+pub mod Untouched
 pub mod Words
