@@ -82,7 +82,7 @@ module _ (file : List ℕ) (tiff : Tiff) (packet : List ℕ) (lies : Lies (reloc
       let copy = copy_length tiff.layout file (first_dir tiff.dirs) (length packet) (first_entry 700 tiff.dirs) lies.widths lies.before lies.after in
       omega (
         arith, exchanged_len, copy,
-        length-append (put_at file (changed tiff).start numbers) (pad (length file) ++ copied), length-append (pad (length file)) copied, length-replicate (pad_len (length file)) 0,
+        length-append (put_at file (changed tiff).start numbers) (pad (length file) ++ copied), length-append (pad (length file)) copied, length-replicate {A = ℕ} (pad_len (length file)) 0,
       )
 
   whole : relocated file tiff packet ≡ front ++ packet

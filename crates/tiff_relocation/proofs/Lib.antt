@@ -1,8 +1,11 @@
 pub mod Copied
 pub mod CopyBytes
+pub mod Finding
 pub mod Grown
+pub mod Inside
 pub mod Lengths
 pub mod Lying
+pub mod NewFile
 pub mod NewFirst
 pub mod Plain
 pub mod Untouched

@@ -1,17 +1,17 @@
 -- The ranges of a relocation lie in the file that is relocated.
 use Rattle.std.proofs.Common.{◌≡◌, ◌∙◌, ℕ, zero, suc, ◌+◌, ◌-◌, ◌*◌, ◌^◌, ◌<◌, ◌≤◌, ◌%◌, Bool, true, false, cond, List, [], ◌∷◌, length, map, refl, sym, ap, subst, arith, Some, None}
-use Rattle.std.specs.Prelude.{◌==◌, nat_lt, All}
-use Rattle.std.specs.List.{position_or_len}
+use Rattle.std.specs.Prelude.{◌==◌, nat_lt, not, All}
+use Rattle.std.proofs.lemmas.List.Sums.{prefix_len-le-length}
 use Rattle.std.specs.declared.option.Option.{Option}
 use Rattle.std.proofs.lemmas.List.Elements.{All-nil, All-cons}
-use native.Mathlib.Nat.{mul-le-mul_left, mod-lt}
+use native.Mathlib.Nat.{mul-le-mul_left}
 use Rattle.xmp_base.specs.declared.file_span.FileSpan.{FileSpan}
 use Rattle.tiff_dirs.specs.declared.layout.Layout.{Layout}
 use Rattle.tiff_dirs.specs.declared.entry.Entry.{Entry}
 use Rattle.tiff_dirs.specs.Layouts.{Widths, layout_of}
 use Rattle.tiff_dirs.specs.Directories.{count_at, end_at, entries_at, entries_from, entry_at}
 use Rattle.tiff_dirs.specs.Faults.{fault_at, inner_fault, place_fault}
-use Rattle.tiff_dirs.specs.Offsets.{Walks}
+use Rattle.tiff_dirs.specs.Offsets.{Walks, all_named}
 use Rattle.tiff_dirs.specs.Pictures.{first_of_tag}
 use Rattle.tiff_dirs.specs.Tiff.{Dir, Tiff, dir_at, first_entry, tiff_of}
 use Rattle.tiff_dirs.specs.Model.{IsTiff}
@@ -33,28 +33,23 @@ entries_stand l file from place to (suc n) low high =
     All-cons (StandsIn l from to) (entry_at l file place) (entries_from l file (place + l.entry) n) (low, omega (arith, high, more))
     (entries_stand l file from (place + l.entry) to n (omega (arith, low)) (omega (arith, high, more)))
 
-entries_count : (l : Layout) (file : List ℕ) (place n : ℕ) → length (entries_from l file place n) ≡ n
+pub entries_count : (l : Layout) (file : List ℕ) (place n : ℕ) → length (entries_from l file place n) ≡ n
 entries_count l file place zero = refl
 entries_count l file place (suc n) = ap suc (entries_count l file (place + l.entry) n)
 
-before_all : (p : Entry → Bool) (es : List Entry) → position_or_len p es ≤ length es
-before_all p [] = omega arith
-before_all p (e ∷ es) = by (p e) (before_all p es)
-  where
-    by : (b : Bool) → position_or_len p es ≤ length es → cond b zero (suc (position_or_len p es)) ≤ suc (length es)
-    by true h = omega arith
-    by false h = omega (arith, h)
+pub before_all : (es : List Entry) → entries_before es ≤ length es
+before_all es = prefix_len-le-length (λ (e : Entry). not (nat_lt 700 e.tag)) es
 
-even_most : (size : ℕ) → (size ≤ even size) × (even size ≤ size + 1)
-even_most size = let low = mod-lt size 2 in (omega arith, omega (arith, low))
+pub even_most : (size : ℕ) → (size ≤ even size) × (even size ≤ size + 1)
+even_most size = (omega arith, omega arith)
 
-module _ (l : Layout) (w : Widths l) (file : List ℕ) (at : ℕ) (here : end_at l file at ≤ length file) (header : l.header ≤ length file) (short : length file ≤ 2 ^ 62) where
+module _ (l : Layout) (w : Widths l) (file : List ℕ) (at : ℕ) (here : end_at l file at ≤ length file) (header : l.header ≤ length file) (short : length file ≤ 2 ^ 60) where
   abbrev d : Dir
   d = dir_at l file at
 
   cut_low : l.entry * entries_before d.entries ≤ l.entry * count_at l file at
   cut_low =
-      let few : entries_before d.entries ≤ count_at l file at = (let n = before_all (λ e. nat_lt 700 e.tag) d.entries in let m = entries_count l file (at + l.count) (count_at l file at) in omega (arith, n, m)) in
+      let few : entries_before d.entries ≤ count_at l file at = (let n = before_all d.entries in let m = entries_count l file (at + l.count) (count_at l file at) in omega (arith, n, m)) in
       mul-le-mul_left l.entry few
 
   abbrev move_by : Option Entry → Type 0
@@ -83,8 +78,8 @@ module _ (l : Layout) (w : Widths l) (file : List ℕ) (at : ℕ) (here : end_at
       let size = w.entry in
       ((omega arith, omega (arith, stands.1, here, size)), (omega arith, omega arith), (omega arith, omega arith), omega (arith, even_is.1, short), omega arith)
 
-lies_at : (file offsets : List ℕ) → Walks file offsets → length file ≤ 2 ^ 62 → Lies (relocation_of (length file) (tiff_of file offsets))
-unfolding fault_at
+lies_at : (file offsets : List ℕ) → Walks file offsets → length file ≤ 2 ^ 60 → Lies (relocation_of (length file) (tiff_of file offsets))
+unfolding fault_at all_named
 lies_at file [] w short = absurd (let bad = w.all in cc)
 lies_at file (at ∷ rest) w short =
     let l = layout_of file in
@@ -93,6 +88,6 @@ lies_at file (at ∷ rest) w short =
     let lies = lies_by l (layout_widths file) file at here w.header short (first_of_tag 700 (entries_at l file at)) refl in
     record { widths = layout_widths file; size = short; changed = lies.0; before = lies.1; after = lies.2; place = lies.3; behind = lies.4 }
 
-pub relocation_lies : (file : List ℕ) (tiff : Tiff) → IsTiff file tiff → length file ≤ 2 ^ 62 → Lies (relocation_of (length file) tiff)
+pub relocation_lies : (file : List ℕ) (tiff : Tiff) → IsTiff file tiff → length file ≤ 2 ^ 60 → Lies (relocation_of (length file) tiff)
 relocation_lies file tiff t short =
     subst (λ (x : Tiff). Lies (relocation_of (length file) x)) (sym t.found.is) (lies_at file t.found.offsets t.found.walks short)

@@ -28,7 +28,7 @@ LiesIn size r = (r.start ≤ r.end) × (r.end ≤ size)
 -- its ranges lie in the file, whose places and some more are numbers of 64 bits
 pub record Lies (r : Relocation) : Type 0 where
   pub widths : Widths r.layout
-  pub size : r.size ≤ 2 ^ 62
+  pub size : r.size ≤ 2 ^ 60
   pub changed : LiesIn r.size r.changed
   pub before : LiesIn r.size r.before
   pub after : LiesIn r.size r.after

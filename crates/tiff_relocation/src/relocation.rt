@@ -14,7 +14,7 @@ const PACKET_TAG: u16 = 700;
 const BYTE: u64 = 1;
 
 /// The longest file whose places are counted.
-const MOST: u64 = 1 << 62;
+const MOST: u64 = 1 << 60;
 
 /// What a relocation exchanges in a file, and what it copies to its end.
 #[derive(Clone, Copy, Debug, PartialEq, Eq)]
@@ -39,7 +39,7 @@ pub struct Relocation {
 
 /// The next even place: what is put at the end of a file begins on a word (TIFF 6.0, section 2).
 fn even(size: u64) -> u64
-    requires { size ≤ 2 ^ 62 }
+    requires { size ≤ 2 ^ 60 }
     ensures { result ≡ even size }
 {
     size + size % 2
@@ -77,7 +77,7 @@ fn cut_place(dirs: &Dirs) -> Option<u64>
 /// The count and the offset of the packet's entry are exchanged.
 fn readdressed(dirs: &Dirs, size: u64, entry: Entry) -> Option<Relocation>
     requires some { 0 < length dirs.now.dirs }
-    requires short { size ≤ 2 ^ 62 }
+    requires short { size ≤ 2 ^ 60 }
     requires entry { first_entry 700 dirs.now.dirs ≡ Some entry }
     ensures is { IfSome result (λ r. r ≡ relocation_of size dirs.now) }
     ensures lies { IfSome result Lies }
@@ -108,7 +108,7 @@ fn readdressed(dirs: &Dirs, size: u64, entry: Entry) -> Option<Relocation>
 /// The offset of the header is exchanged, for that of a copy of the first directory.
 fn copied(dirs: &Dirs, size: u64) -> Option<Relocation>
     requires some { 0 < length dirs.now.dirs }
-    requires short { size ≤ 2 ^ 62 }
+    requires short { size ≤ 2 ^ 60 }
     requires none { first_entry 700 dirs.now.dirs ≡ None }
     ensures is { IfSome result (λ r. r ≡ relocation_of size dirs.now) }
     ensures lies { IfSome result Lies }
