@@ -38,7 +38,7 @@ one_by : (P : FileSpan → Type 0) (t : Bool) (v : FileSpan) → P v → All P (
 one_by P true v h = All-cons P v [] h (All-nil P)
 one_by P false v h = All-nil P
 
-values_inside : (l : Layout) (len : ℕ) (es : List Entry) → All (λ e. e.value.end ≤ len) es → All (EndsIn len) (flat_map (apart_of l) es)
+pub values_inside : (l : Layout) (len : ℕ) (es : List Entry) → All (λ e. e.value.end ≤ len) es → All (EndsIn len) (flat_map (apart_of l) es)
 values_inside l len [] all = All-nil (EndsIn len)
 values_inside l len (e ∷ es) all =
     All-append (EndsIn len) (apart_of l e) (flat_map (apart_of l) es) (one_by (EndsIn len) (is_apart l e) e.value (All-head (λ (x : Entry). x.value.end ≤ len) e es all))

@@ -28,12 +28,13 @@ use Rattle.tiff_relocation.specs.Relocation.{copy_by, copy_bytes, copy_len, cut_
 use Rattle.tiff_relocation.proofs.Copied.{IsKept, IsPacket, behind, bytes_length, reads_back}
 use Rattle.tiff_relocation.proofs.CopyBytes.{HasCopy, copy_stands, end_moved}
 use Rattle.tiff_relocation.proofs.Grown.{HasPacket, found_grown, own_copied}
-use Rattle.tiff_relocation.proofs.Inside.{EndsIn, IsAway, all_away, all_named_inside, all_shown_inside, each_range, ends_inside, entries_inside, not_behind}
+use Rattle.tiff_relocation.proofs.Inside.{EndsIn, IsAway, all_away, all_named_inside, all_shown_inside, each_range, ends_inside, entries_inside, not_behind, values_inside}
 use Rattle.tiff_relocation.proofs.Lengths.{copy_length}
 use Rattle.tiff_relocation.proofs.Lying.{before_all, entries_count, even_most}
 use Rattle.tiff_relocation.proofs.NewFirst.{all_plain, children_moved, fault_moved, grown, pictures_moved}
 use Rattle.tiff_relocation.proofs.Plain.{IsPlain, packet_found, without_grown, without_packet}
 use Rattle.tiff_relocation.proofs.Untouched.{added, exchanged, now_size, untouched}
+use Rattle.tiff_relocation.proofs.Words.{pow_count}
 
 -- values that stand apart have their bytes where these are untouched
 kept_all : (l : Layout) (a b : List ℕ) (c : FileSpan) (len : ℕ) → ((r : FileSpan) → r.end ≤ len → IsAway c r → bytes_in b r ≡ bytes_in a r)
@@ -158,7 +159,7 @@ module _ (a : List ℕ) (at : ℕ) (rest : List ℕ) (walks : Walks a (at ∷ re
   module _ (away : All (IsAway header_numbers) (dir_span d ∷ (flat_map (apart_of l) d.entries ++ farther))) (room : length d.entries < 65535) (long : l.word < length packet)
       (told : place + length packet < 256 ^ l.word) (none : first_of_tag 700 d.entries ≡ None) where
     fits : before + later + 1 < 256 ^ l.count
-    fits = ?
+    fits = omega (arith, pow_count l.count w.least_count, room, whole, entries_count l a (at + l.count) (count_at l a at))
 
     copied : HasCopy l a now at new before later value
     copied =
@@ -180,3 +181,107 @@ module _ (a : List ℕ) (at : ℕ) (rest : List ℕ) (walks : Walks a (at ∷ re
         let same = stays (span 0 l.word) (omega (arith, header)) (λ m. let low = m.0 in omega (arith, low)) in
         ap (λ (n : ℕ). layout_by (n == 0x4D4D) (number (n == 0x4D4D) 2 2 now)) (number_same a now (span 0 l.word) same true 2 0 (omega arith) (omega (arith, least)))
         ∙ ap (layout_by (number true 2 0 a == 0x4D4D)) (number_same a now (span 0 l.word) same (number true 2 0 a == 0x4D4D) 2 2 (omega arith) (omega (arith, least)))
+
+    first_named : first_offset l now ≡ new
+    first_named =
+        reads_back l.big l.word new l.word now (drop (l.word + length numbers) a ++ more) (omega (arith, told)) (exchanged a l.word numbers more room_for)
+
+    new_first : HasPacket l a now value before d.entries (entries_at l now new)
+    new_first = grown l w a now at new before later value copied kept
+
+    plain : All (IsPlain l size) d.entries
+    plain = all_plain l w a now at new before later value copied kept clear none
+
+    longer : size ≤ length now
+    longer = omega (arith, now_length, even_most size, copy_size)
+
+    new_clear : fault_at l now [] new ≡ None
+    new_clear =
+        let double = w.header in
+        let even_is = even_most size in
+        fault_moved l w a now at new before later value copied kept clear none longer (omega (arith, now_length)) (omega (arith, header, double, even_is.0)) (omega (arith, now_length, ends))
+        (omega (arith, room, whole, entries_count l a (at + l.count) (count_at l a at)))
+
+    fresh : Contains rest new → ⊥
+    fresh m =
+        let low = not_behind a (at ∷ rest) walks new (Contains-append_right (at ∷ []) rest new m) in
+        let even_is = even_most size in
+        omega (arith, low, even_is.0)
+
+    farther_away : All (IsAway header_numbers) farther
+    farther_away =
+        each_range (IsAway header_numbers) farther (λ r m.
+        All-contains (IsAway header_numbers) (flat_map (apart_of l) d.entries ++ farther) r (All-tail (IsAway header_numbers) (dir_span d) (flat_map (apart_of l) d.entries ++ farther) away)
+        (Contains-append_right (flat_map (apart_of l) d.entries) farther r m))
+
+    agree : Agree a now (flat_map (tables_at l a) rest)
+    agree =
+        each_range (λ r. bytes_in now r ≡ bytes_in a r) (flat_map (tables_at l a) rest) (λ r m.
+        stays r (tables_lie a (at ∷ rest) walks r (Contains-append_right (span 0 l.header ∷ tables_at l a at) (flat_map (tables_at l a) rest) r m))
+        (all_away l w a header_numbers rest (each_range (IsAway header_numbers) (flat_map (λ e. named_in l e e.entries) (map (dir_at l a) rest)) (λ s k.
+        All-contains (IsAway header_numbers) farther s farther_away (Contains-append_left (flat_map (λ e. named_in l e e.entries) (map (dir_at l a) rest)) pictures s k))) r m))
+
+    new_walks : Walks now (new ∷ rest) × (map (dir_at (layout_of now) now) rest ≡ map (dir_at l a) rest) × (flat_map (pictures_at (layout_of now) now) rest ≡ flat_map (pictures_at l a) rest)
+    new_walks = exchanged_first a now at new rest walks longer same_layout first_named (children_moved l w a now at new before later value copied kept) new_clear fresh agree
+
+    -- the directories and the pictures of the new file
+    abbrev pub tiff_now : Tiff
+    tiff_now = record { layout = l; dirs = dir_at l now new ∷ map (dir_at l a) rest; pictures = pictures }
+
+    abbrev tiff_as : Layout → Dir → List Dir → List FileSpan → List FileSpan → Tiff
+    tiff_as m first dirs shown others = record { layout = m; dirs = first ∷ dirs; pictures = shown ++ others }
+
+    tiff_is : tiff_now ≡ tiff_of now (new ∷ rest)
+    tiff_is =
+        let back = sym same_layout in
+        ap (λ (t : List FileSpan). tiff_as l (dir_at l now new) (map (dir_at l a) rest) t (flat_map (pictures_at l a) rest)) (sym (pictures_moved l w a now at new before later value copied kept))
+        ∙ ap (λ (t : List FileSpan). tiff_as l (dir_at l now new) (map (dir_at l a) rest) (pictures_at l now new) t) (sym new_walks.2)
+        ∙ ap (λ (ds : List Dir). tiff_as l (dir_at l now new) ds (pictures_at l now new) (flat_map (pictures_at (layout_of now) now) rest)) (sym new_walks.1)
+        ∙ ap (λ (m : Layout). tiff_as m (dir_at m now new) (map (dir_at (layout_of now) now) rest) (pictures_at m now new) (flat_map (pictures_at (layout_of now) now) rest)) back
+
+    pub found : Found now tiff_now
+    found = record { offsets = new ∷ rest; walks = new_walks.0; is = tiff_is }
+
+    -- No named range meets the packet or the resources value.
+
+    farther_inside : All (EndsIn size) farther
+    farther_inside =
+        All-append (EndsIn size) (flat_map (λ e. named_in l e e.entries) (map (dir_at l a) rest)) pictures
+        (all_named_inside a (at ∷ rest) walks rest (λ x m. Contains-append_right (at ∷ []) rest x m)) (all_shown_inside a (at ∷ rest) walks (at ∷ rest) (λ x m. m))
+
+    size_low : size ≤ place
+    size_low = let even_is = even_most size in omega (arith, copy_size, even_is.0)
+
+    behind_all : (r : FileSpan) → r.end ≤ place → IsAway value r
+    behind_all r low m = let start = m.0 in omega (arith, low, start)
+
+    others_low : All (EndsIn place) (others 700 tiff_now)
+    others_low =
+        let double = w.header in
+        let apart : All (EndsIn size) (flat_map (apart_of l) (without 700 (entries_at l now new))) =
+        subst (All (EndsIn size)) (sym (without_packet l a now value size before d.entries (entries_at l now new) new_first plain)) (values_inside l size d.entries (entries_inside l w a [] at clear)) in
+        let low : All (EndsIn place) (flat_map (apart_of l) (without 700 (entries_at l now new)) ++ farther) =
+        All-weaker (EndsIn size) (EndsIn place) (λ r h. omega (arith, h, size_low)) (flat_map (apart_of l) (without 700 (entries_at l now new)) ++ farther)
+        (All-append (EndsIn size) (flat_map (apart_of l) (without 700 (entries_at l now new))) farther apart farther_inside) in
+        All-cons (EndsIn place) (span 0 l.header) (dir_span (dir_at l now new) ∷ (flat_map (apart_of l) (without 700 (entries_at l now new)) ++ farther)) (omega (arith, header, double, size_low))
+        (All-cons (EndsIn place) (dir_span (dir_at l now new)) (flat_map (apart_of l) (without 700 (entries_at l now new)) ++ farther) (omega (arith, ends)) low)
+
+    packet_own : (f : Entry) (v : FileSpan) → IsPacket l value f → own_of l (Some f) ≡ Some v → value ≡ v
+    packet_own f v p is =
+        let kind : is_packet f.code ≡ true = ap is_packet p.code in
+        sym p.value ∙ own_by (is_packet f.code) (is_apart l f) f.value v kind p.apart is
+      where
+        own_by : (s t : Bool) (x y : FileSpan) → s ≡ true → t ≡ true → (if s && t then Some x else None) ≡ Some y → x ≡ y
+        own_by true true x y p q h = (cc h)
+        own_by false t x y p q h = absurd (cc p)
+        own_by true false x y p q h = absurd (cc q)
+
+    first_packet : (f : Entry) × (first_of_tag 700 (entries_at l now new) ≡ Some f) × IsPacket l value f
+    first_packet = packet_found l a now value size before d.entries (entries_at l now new) new_first plain
+
+    packet_clear : Clear 700 tiff_now
+    packet_clear = record {
+      clear = λ v is.
+          let same : value ≡ v = packet_own first_packet.0 v first_packet.2 (ap (own_of l) (sym first_packet.1) ∙ is) in
+          subst (λ (x : FileSpan). All (IsAway x) (others 700 tiff_now)) same (All-weaker (EndsIn place) (IsAway value) behind_all (others 700 tiff_now) others_low);
+    }
