@@ -1,5 +1,6 @@
 pub mod Copied
 pub mod CopyBytes
+pub mod Copying
 pub mod Finding
 pub mod Grown
 pub mod Inside

@@ -24,6 +24,7 @@ use Rattle.tiff_dirs.proofs.Appended.{tables_lie}
 use Rattle.tiff_dirs.proofs.Exchanged.{exchanged as exchanged_first}
 use Rattle.tiff_dirs.proofs.Framed.{layout_widths}
 use Rattle.tiff_dirs.proofs.Frames.{number_same}
+use Rattle.tiff_dirs.proofs.Shown.{find_all}
 use Rattle.tiff_relocation.specs.Relocation.{copy_by, copy_bytes, copy_len, cut_place, entries_before, even, number_bytes, packet_entry, packet_place_by, pad, pad_len}
 use Rattle.tiff_relocation.proofs.Copied.{IsKept, IsPacket, behind, bytes_length, reads_back}
 use Rattle.tiff_relocation.proofs.CopyBytes.{HasCopy, copy_stands, end_moved}
@@ -285,3 +286,52 @@ module _ (a : List ℕ) (at : ℕ) (rest : List ℕ) (walks : Walks a (at ∷ re
           let same : value ≡ v = packet_own first_packet.0 v first_packet.2 (ap (own_of l) (sym first_packet.1) ∙ is) in
           subst (λ (x : FileSpan). All (IsAway x) (others 700 tiff_now)) same (All-weaker (EndsIn place) (IsAway value) behind_all (others 700 tiff_now) others_low);
     }
+
+    -- the resources value, which is the old one
+    tail_away : (u : FileSpan) → All (IsAway u) (others 34377 (tiff_of a (at ∷ rest))) → All (IsAway u) (flat_map (apart_of l) (without 34377 d.entries) ++ farther)
+    tail_away u old =
+        All-tail (IsAway u) (dir_span d) (flat_map (apart_of l) (without 34377 d.entries) ++ farther)
+        (All-tail (IsAway u) (span 0 l.header) (dir_span d ∷ (flat_map (apart_of l) (without 34377 d.entries) ++ farther)) old)
+
+    others_away : (u : FileSpan) → u.end ≤ size → All (IsAway u) (others 34377 (tiff_of a (at ∷ rest))) → All (IsAway u) (others 34377 tiff_now)
+    others_away u high old =
+        let old_values = flat_map (apart_of l) (without 34377 d.entries) in
+        let values = flat_map (apart_of l) (without 34377 (entries_at l now new)) in
+        let even_is = even_most size in
+        let tail = tail_away u old in
+        let each : (r : FileSpan) → Contains values r → IsAway u r =
+        (λ r m. elim (without_grown l a now value 34377 before d.entries (entries_at l now new) (omega arith) new_first r m) [
+          | inl same ↦ subst (IsAway u) same (λ k. let low = k.1 in omega (arith, low, high, size_low))
+          | inr h ↦ All-contains (IsAway u) (old_values ++ farther) r tail (Contains-append_left old_values farther r h)
+        ]) in
+        All-cons (IsAway u) (span 0 l.header) (dir_span (dir_at l now new) ∷ (values ++ farther))
+        (All-head (IsAway u) (span 0 l.header) (dir_span d ∷ (old_values ++ farther)) old)
+        (All-cons (IsAway u) (dir_span (dir_at l now new)) (values ++ farther) (λ k. let low = k.1 in omega (arith, low, high, even_is.0))
+        (All-append (IsAway u) values farther (each_range (IsAway u) values each)
+        (each_range (IsAway u) farther (λ r m. All-contains (IsAway u) (old_values ++ farther) r tail (Contains-append_right old_values farther r m)))))
+
+    own_inside : (o : Option Entry) (u : FileSpan) → ((e : Entry) → o ≡ Some e → e.value.end ≤ size) → own_of l o ≡ Some u → u.end ≤ size
+    own_inside None u each is = absurd (cc is)
+    own_inside (Some e) u each is = own_by (is_packet e.code) (is_apart l e) (each e refl) is
+      where
+        own_by : (s t : Bool) → e.value.end ≤ size → (if s && t then Some e.value else None) ≡ Some u → u.end ≤ size
+        own_by true true h p = (let same : e.value ≡ u = (cc p) in subst (EndsIn size) same h)
+        own_by true false h p = absurd (cc p)
+        own_by false t h p = absurd (cc p)
+
+    resources_clear : Clear 34377 (tiff_of a (at ∷ rest)) → Clear 34377 tiff_now
+    resources_clear old = record {
+      clear = λ u is.
+          let found_same = found_grown l a now value 34377 before d.entries (entries_at l now new) (omega arith) new_first in
+          let was : own 34377 (tiff_of a (at ∷ rest)) ≡ Some u =
+          sym (own_copied l a now (first_of_tag 34377 d.entries) (first_of_tag 34377 (entries_at l now new)) found_same) ∙ is in
+          let high = own_inside (first_of_tag 34377 d.entries) u
+          (λ e h. find_all (λ x. x.value.end ≤ size) (λ x. x.tag == 34377) d.entries e (entries_inside l w a [] at clear) h) was in
+          others_away u high (old.clear u was);
+    }
+
+    pub new_tiff : NoOverlap (tiff_of a (at ∷ rest)) → IsTiff now tiff_now
+    new_tiff old = record { found = found; clear = (packet_clear, resources_clear old.1) }
+
+    pub first_is : (f : Entry) × (first_entry 700 tiff_now.dirs ≡ Some f) × (f.value ≡ value)
+    first_is = let p = first_packet.2 in (first_packet.0, first_packet.1, p.value)
