@@ -1,9 +1,12 @@
 pub mod Copied
 pub mod CopyBytes
+pub mod Copying
 pub mod Finding
 pub mod Grown
+pub mod Inside
 pub mod Lengths
 pub mod Lying
+pub mod NewFile
 pub mod NewFirst
 pub mod Plain
 pub mod Untouched
