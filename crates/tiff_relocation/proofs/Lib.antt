@@ -10,5 +10,6 @@ pub mod Moved
 pub mod NewFile
 pub mod NewFirst
 pub mod Plain
+pub mod Readdressed
 pub mod Untouched
 pub mod Words
