@@ -9,7 +9,9 @@ pub mod Lying
 pub mod Moved
 pub mod NewFile
 pub mod NewFirst
+pub mod OldBytes
 pub mod Plain
 pub mod Readdressed
+pub mod Readdressing
 pub mod Untouched
 pub mod Words
