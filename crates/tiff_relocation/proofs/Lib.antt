@@ -9,5 +9,6 @@ pub mod Lying
 pub mod NewFile
 pub mod NewFirst
 pub mod Plain
+pub mod Staying
 pub mod Untouched
 pub mod Words

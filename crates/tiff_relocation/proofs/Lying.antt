@@ -22,10 +22,10 @@ use Rattle.tiff_relocation.specs.Relocation.{changed_by, copy_by, entries_before
 use Rattle.tiff_relocation.specs.Moves.{Lies, LiesIn, relocation_of}
 
 -- entries stand one after another
-abbrev StandsIn : Layout → ℕ → ℕ → Entry → Type 0
+abbrev pub StandsIn : Layout → ℕ → ℕ → Entry → Type 0
 StandsIn l from to e = (from ≤ e.place) × (e.place + l.entry ≤ to)
 
-entries_stand : (l : Layout) (file : List ℕ) (from place to n : ℕ) → from ≤ place → place + l.entry * n ≤ to → All (StandsIn l from to) (entries_from l file place n)
+pub entries_stand : (l : Layout) (file : List ℕ) (from place to n : ℕ) → from ≤ place → place + l.entry * n ≤ to → All (StandsIn l from to) (entries_from l file place n)
 unfolding entry_at
 entries_stand l file from place to zero low high = All-nil (StandsIn l from to)
 entries_stand l file from place to (suc n) low high =
