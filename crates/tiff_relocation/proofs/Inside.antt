@@ -74,7 +74,7 @@ module _ (l : Layout) (w : Widths l) (file : List ℕ) where
 
 -- The value of an entry stands in it or apart.
 
-abbrev IsInline : Layout → FileSpan → Entry → Type 0
+abbrev pub IsInline : Layout → FileSpan → Entry → Type 0
 IsInline l d e = is_apart l e ≡ false → (d.start ≤ e.value.start) × (e.value.end ≤ d.end)
 
 inline_by : (b : Bool) (word size at n start end : ℕ) → nat_le size word ≡ b → nat_lt word size ≡ false → start ≤ at → at + word ≤ end
@@ -89,7 +89,7 @@ entry_inline l file place d w low high inner =
     let size = size_of l (number l.big 2 (place + 2) file) * number l.big l.word (place + 4) file in
     inline_by (nat_le size l.word) l.word size (place + 4 + l.word) (number l.big l.word (place + 4 + l.word) file) d.start d.end refl inner (omega (arith, low)) (omega (arith, wide, high))
 
-entries_inline : (l : Layout) (file : List ℕ) (place n : ℕ) (d : FileSpan) → Widths l → d.start ≤ place → place + l.entry * n ≤ d.end → All (IsInline l d) (entries_from l file place n)
+pub entries_inline : (l : Layout) (file : List ℕ) (place n : ℕ) (d : FileSpan) → Widths l → d.start ≤ place → place + l.entry * n ≤ d.end → All (IsInline l d) (entries_from l file place n)
 entries_inline l file place zero d w low high = All-nil (IsInline l d)
 entries_inline l file place (suc n) d w low high =
     let more : l.entry * suc n ≡ l.entry * n + l.entry = omega arith in
@@ -100,10 +100,10 @@ value_by : (l : Layout) (c d : FileSpan) (e : Entry) (t : Bool) → is_apart l e
 value_by l c d e true is inner away all = All-head (IsAway c) e.value [] all
 value_by l c d e false is inner away all = (let i = inner is in λ m. away (omega (arith, m.0, i.1), omega (arith, m.1, i.0)))
 
-all_front : (P : FileSpan → Type 0) (xs ys : List FileSpan) → All P (xs ++ ys) → All P xs
+pub all_front : (P : FileSpan → Type 0) (xs ys : List FileSpan) → All P (xs ++ ys) → All P xs
 all_front P xs ys all = each_range P xs (λ r m. All-contains P (xs ++ ys) r all (Contains-append_left xs ys r m))
 
-all_back : (P : FileSpan → Type 0) (xs ys : List FileSpan) → All P (xs ++ ys) → All P ys
+pub all_back : (P : FileSpan → Type 0) (xs ys : List FileSpan) → All P (xs ++ ys) → All P ys
 all_back P xs ys all = each_range P ys (λ r m. All-contains P (xs ++ ys) r all (Contains-append_right xs ys r m))
 
 one_in : (t : Bool) (v r : FileSpan) → Contains (if t then v ∷ [] else []) r → v ≡ r
@@ -112,7 +112,7 @@ one_in true v r (suc k, low, is) = absurd (omega arith)
 one_in false v r (k, low, is) = absurd (omega arith)
 
 -- values of a directory share no byte with a range that shares none with its named ranges
-values_away : (l : Layout) (c d : FileSpan) (es : List Entry) → All (IsInline l d) es → IsAway c d → All (IsAway c) (flat_map (apart_of l) es) → (r : FileSpan) → Contains (tables_in es) r → IsAway c r
+pub values_away : (l : Layout) (c d : FileSpan) (es : List Entry) → All (IsInline l d) es → IsAway c d → All (IsAway c) (flat_map (apart_of l) es) → (r : FileSpan) → Contains (tables_in es) r → IsAway c r
 values_away l c d [] inner away all r (k, low, is) = absurd (omega arith)
 values_away l c d (e ∷ es) inner away all r m =
     elim (Contains-append_cases (table_of e) (tables_in es) r m) [

@@ -6,6 +6,7 @@ pub mod Grown
 pub mod Inside
 pub mod Lengths
 pub mod Lying
+pub mod Moved
 pub mod NewFile
 pub mod NewFirst
 pub mod Plain

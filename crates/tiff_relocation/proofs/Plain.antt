@@ -193,7 +193,7 @@ module _ (l : Layout) (a b : List ℕ) where
   place_step tag true e es is = rw is refl
   place_step tag false e es is = rw is (omega arith)
 
-  without_by : (tag : ℕ) (t : Bool) (e : Entry) (es : List Entry) → (e.tag == tag) ≡ t → without tag (e ∷ es) ≡ (if t then es else e ∷ without tag es)
+  pub without_by : (tag : ℕ) (t : Bool) (e : Entry) (es : List Entry) → (e.tag == tag) ≡ t → without tag (e ∷ es) ≡ (if t then es else e ∷ without tag es)
   without_by tag true e es is = ap (λ (k : ℕ). take k (e ∷ es) ++ drop (k + 1) (e ∷ es)) (place_step tag true e es is)
   without_by tag false e es is =
       let k = place_of tag es in

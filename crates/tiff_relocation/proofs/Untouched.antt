@@ -23,7 +23,7 @@ apart_spans a b none =
     ]
 
 -- a range is told by the bytes up to a place behind it
-front_same : (a b : List ℕ) (r : FileSpan) (at : ℕ) → take at b ≡ take at a → r.start ≤ r.end → r.end ≤ at → bytes_in b r ≡ bytes_in a r
+pub front_same : (a b : List ℕ) (r : FileSpan) (at : ℕ) → take at b ≡ take at a → r.start ≤ r.end → r.end ≤ at → bytes_in b r ≡ bytes_in a r
 front_same a b r at same ordered before = front b ∙ ap (λ (t : List ℕ). drop r.start (take r.end t)) same ∙ sym (front a)
   where
     front : (x : List ℕ) → bytes_in x r ≡ drop r.start (take r.end (take at x))
@@ -32,7 +32,7 @@ front_same a b r at same ordered before = front b ∙ ap (λ (t : List ℕ). dro
         sym (drop-take r.start (r.end - r.start) x) ∙ ap (λ (n : ℕ). drop r.start (take n x)) whole ∙ ap (drop r.start) (sym (take-take r.end at x before))
 
 -- and by so many of those from a place before it
-back_same : (a b : List ℕ) (r : FileSpan) (past n : ℕ) → take n (drop past b) ≡ take n (drop past a) → past ≤ r.start → r.start ≤ r.end → r.end ≤ past + n → bytes_in b r ≡ bytes_in a r
+pub back_same : (a b : List ℕ) (r : FileSpan) (past n : ℕ) → take n (drop past b) ≡ take n (drop past a) → past ≤ r.start → r.start ≤ r.end → r.end ≤ past + n → bytes_in b r ≡ bytes_in a r
 back_same a b r past n same low ordered high = back b ∙ ap (λ (t : List ℕ). drop (r.start - past) (take (r.end - past) t)) same ∙ sym (back a)
   where
     back : (x : List ℕ) → bytes_in x r ≡ drop (r.start - past) (take (r.end - past) (take n (drop past x)))
@@ -45,7 +45,7 @@ back_same a b r past n same low ordered high = back b ∙ ap (λ (t : List ℕ).
         ∙ ap (λ (k : ℕ). drop (r.start - past) (take k (drop past x))) whole
         ∙ ap (drop (r.start - past)) (sym (take-take (r.end - past) n (drop past x) (omega (arith, high))))
 
-empty : (x : List ℕ) (r : FileSpan) → r.end ≤ r.start → bytes_in x r ≡ []
+pub empty : (x : List ℕ) (r : FileSpan) → r.end ≤ r.start → bytes_in x r ≡ []
 empty x r h = let none : r.end - r.start ≡ 0 = omega (arith, h) in ap (λ (n : ℕ). take n (drop r.start x)) none
 
 module _ (file : List ℕ) (at : ℕ) (now more : List ℕ) (inside : at + length now ≤ length file) where
