@@ -1,11 +1,10 @@
 -- The bytes of the old file that stay, whether its packet has an entry or not.
-use Rattle.std.proofs.Common.{◌≡◌, ◌≢◌, ◌∙◌, ℕ, zero, suc, ◌+◌, ◌-◌, ◌*◌, ◌<◌, ◌≤◌, ◌⊎◌, inl, inr, ◌==◌, nat_le, nat_lt, ◌&&◌, not, Bool, true, false, if◌then◌else◌, List, [], ◌∷◌, ◌++◌, length, take, drop, map, refl, sym, ap, subst, arith, All, Contains, None, Some}
+use Rattle.std.proofs.Common.{◌≡◌, ◌≢◌, ◌∙◌, ℕ, zero, suc, ◌+◌, ◌-◌, ◌*◌, ◌<◌, ◌≤◌, ◌⊎◌, inl, inr, ◌==◌, nat_le, nat_lt, ◌&&◌, not, Bool, true, false, if◌then◌else◌, List, [], ◌∷◌, ◌++◌, length, take, drop, map, refl, sym, ap, subst, arith, Contains, None, Some}
 use Rattle.std.specs.declared.option.Option.{Option}
-use Rattle.std.specs.List.{flat_map, list_any, slice_get}
+use Rattle.std.specs.List.{flat_map, slice_get}
 use Rattle.std.proofs.lemmas.Bool.Decides.{nat_tests}
 use Rattle.std.proofs.lemmas.List.{take-take}
 use Rattle.std.proofs.lemmas.List.Elements.{All-contains, Contains-append_right}
-use Rattle.xmp_base.specs.Device.{put_at}
 use Rattle.xmp_base.specs.declared.file_span.FileSpan.{FileSpan}
 use Rattle.xmp_values.specs.declared.rules.Rule.TheVariants.{DirectoryLong, DirectoryOut}
 use Rattle.tiff_dirs.specs.declared.layout.Layout.{Layout}
@@ -16,15 +15,14 @@ use Rattle.tiff_dirs.specs.Layouts.{Widths, layout_of}
 use Rattle.tiff_dirs.specs.Directories.{count_at, end_at, entries_at, span}
 use Rattle.tiff_dirs.specs.Faults.{broken, fault_at, inner_fault, place_fault}
 use Rattle.tiff_dirs.specs.Frames.{Agree, bytes_in}
-use Rattle.tiff_dirs.specs.Model.{IsTiff}
 use Rattle.tiff_dirs.specs.Offsets.{Walks, all_named}
-use Rattle.tiff_dirs.specs.Overlaps.{Meets, apart_of, named_in}
+use Rattle.tiff_dirs.specs.Overlaps.{apart_of, named_in}
 use Rattle.tiff_dirs.specs.Pictures.{first_of_tag}
-use Rattle.tiff_dirs.specs.Tiff.{Dir, Tiff, dir_at, first_entry, tiff_of}
+use Rattle.tiff_dirs.specs.Tiff.{Dir, Tiff, dir_at, tiff_of}
 use Rattle.tiff_dirs.proofs.Framed.{layout_widths, or_first}
 use Rattle.tiff_dirs.proofs.Shown.{find_all}
 use Rattle.tiff_relocation.specs.Apart.{IsApart, OldBytesStay, elsewhere, not_holding}
-use Rattle.tiff_relocation.specs.Relocation.{changed, changed_by, copy_by, copy_bytes, first_dir, numbers_by, pad, relocated}
+use Rattle.tiff_relocation.specs.Relocation.{changed, changed_by, copy_by, copy_bytes, numbers_by, pad, relocated}
 use Rattle.tiff_relocation.proofs.Inside.{EndsIn, IsAway, all_shown_inside, each_range, ends_inside}
 use Rattle.tiff_relocation.proofs.Lengths.{numbers_len}
 use Rattle.tiff_relocation.proofs.Lying.{StandsIn, entries_stand}
@@ -68,8 +66,8 @@ module _ (a : List ℕ) (at : ℕ) (rest : List ℕ) (walks : Walks a (at ∷ re
   abbrev d : Dir
   d = dir_at l a at
 
-  abbrev tiff : Tiff
-  tiff = tiff_of a (at ∷ rest)
+  abbrev old : Tiff
+  old = tiff_of a (at ∷ rest)
 
   clear : fault_at l a [] at ≡ None
   clear = walks.reaches.sound 0 at refl
@@ -96,36 +94,36 @@ module _ (a : List ℕ) (at : ℕ) (rest : List ℕ) (walks : Walks a (at ∷ re
   abbrev more : List ℕ
   more = pad (length a) ++ (copy_bytes a (copy_by l (length a) d (length packet) o) ++ packet)
 
-  room_for : (changed tiff).start + length numbers ≤ length a
+  room_for : (changed old).start + length numbers ≤ length a
   room_for = let lies = changed_lies o refl in omega (arith, numbers_len l (length a) (length packet) o, lies.1, lies.2)
 
-  pub stays : (r : FileSpan) → r.end ≤ length a → IsAway (changed tiff) r → bytes_in (relocated a tiff packet) r ≡ bytes_in a r
+  pub stays : (r : FileSpan) → r.end ≤ length a → IsAway (changed old) r → bytes_in (relocated a old packet) r ≡ bytes_in a r
   stays r high away =
       let lies = changed_lies o refl in
-      let end : (changed tiff).end ≡ (changed tiff).start + length numbers = omega (arith, numbers_len l (length a) (length packet) o, lies.1) in
-      untouched a (changed tiff).start numbers more room_for r high (subst (λ (n : ℕ). IsAway (span (changed tiff).start n) r) end away)
+      let end : (changed old).end ≡ (changed old).start + length numbers = omega (arith, numbers_len l (length a) (length packet) o, lies.1) in
+      untouched a (changed old).start numbers more room_for r high (subst (λ (n : ℕ). IsAway (span (changed old).start n) r) end away)
 
-  byte_stays : (place : ℕ) → place < length a → (place < (changed tiff).start) ⊎ ((changed tiff).end ≤ place) → slice_get (relocated a tiff packet) place ≡ slice_get a place
-  byte_stays place low (inl h) = one_same a (relocated a tiff packet) place (stays (span place (place + 1)) (omega (arith, low)) (λ m. let k = m.0 in omega (arith, k, h)))
-  byte_stays place low (inr h) = one_same a (relocated a tiff packet) place (stays (span place (place + 1)) (omega (arith, low)) (λ m. let k = m.1 in omega (arith, k, h)))
+  byte_stays : (place : ℕ) → place < length a → (place < (changed old).start) ⊎ ((changed old).end ≤ place) → slice_get (relocated a old packet) place ≡ slice_get a place
+  byte_stays place low (inl h) = one_same a (relocated a old packet) place (stays (span place (place + 1)) (omega (arith, low)) (λ m. let k = m.0 in omega (arith, k, h)))
+  byte_stays place low (inr h) = one_same a (relocated a old packet) place (stays (span place (place + 1)) (omega (arith, low)) (λ m. let k = m.1 in omega (arith, k, h)))
 
-  pictures_stay : IsApart tiff → Agree a (relocated a tiff packet) tiff.pictures
+  pictures_stay : IsApart old → Agree a (relocated a old packet) old.pictures
   pictures_stay away =
-      each_range (λ r. bytes_in (relocated a tiff packet) r ≡ bytes_in a r) tiff.pictures (λ r m.
-      stays r (All-contains (EndsIn (length a)) tiff.pictures r (all_shown_inside a (at ∷ rest) walks (at ∷ rest) (λ x k. k)) m)
-      (All-contains (IsAway (changed tiff)) (elsewhere tiff) r away (among r m)))
+      each_range (λ r. bytes_in (relocated a old packet) r ≡ bytes_in a r) old.pictures (λ r m.
+      stays r (All-contains (EndsIn (length a)) old.pictures r (all_shown_inside a (at ∷ rest) walks (at ∷ rest) (λ x k. k)) m)
+      (All-contains (IsAway (changed old)) (elsewhere old) r away (among r m)))
     where
-      among : (r : FileSpan) → Contains tiff.pictures r → Contains (elsewhere tiff) r
+      among : (r : FileSpan) → Contains old.pictures r → Contains (elsewhere old) r
       among r m =
           let values = flat_map (apart_of l) d.entries in
           let others = flat_map (λ e. named_in l e e.entries) (map (dir_at l a) rest) in
-          Contains-append_right (not_holding l d o ∷ []) (values ++ (others ++ tiff.pictures)) r (Contains-append_right values (others ++ tiff.pictures) r (Contains-append_right others tiff.pictures r m))
+          Contains-append_right (not_holding l d o ∷ []) (values ++ (others ++ old.pictures)) r (Contains-append_right values (others ++ old.pictures) r (Contains-append_right others old.pictures r m))
 
-  word_stays : take l.word (relocated a tiff packet) ≡ take l.word a
+  word_stays : take l.word (relocated a old packet) ≡ take l.word a
   word_stays =
       let lies = changed_lies o refl in
-      let start = (changed tiff).start in
-      sym (take-take l.word start (relocated a tiff packet) (omega (arith, lies.0))) ∙ ap (take l.word) (front a start numbers more room_for) ∙ take-take l.word start a (omega (arith, lies.0))
+      let start = (changed old).start in
+      sym (take-take l.word start (relocated a old packet) (omega (arith, lies.0))) ∙ ap (take l.word) (front a start numbers more room_for) ∙ take-take l.word start a (omega (arith, lies.0))
 
 -- for a file and its directories
 abbrev Stays : List ℕ → List ℕ → Tiff → Type 0
