@@ -1,6 +1,5 @@
 -- Named ranges lie in the file, and the tables of a directory in its named ranges.
-use Rattle.std.proofs.Common.{◌≡◌, ◌∙◌, ℕ, zero, suc, ◌+◌, ◌*◌, ◌<◌, ◌≤◌, ◌⊎◌, inl, inr, ◌==◌, nat_le, nat_lt, Bool, true, false, if◌then◌else◌, List, [], ◌∷◌, ◌++◌, length, map, refl, sym, ap, subst, arith, All, Contains, None}
-use Rattle.std.specs.declared.option.Option.{Option}
+use Rattle.std.proofs.Common.{◌≡◌, ℕ, zero, suc, ◌+◌, ◌*◌, ◌<◌, ◌≤◌, inl, inr, ◌==◌, nat_le, nat_lt, Bool, true, false, if◌then◌else◌, List, [], ◌∷◌, ◌++◌, length, map, refl, subst, arith, All, Contains, None}
 use Rattle.std.specs.List.{flat_map}
 use Rattle.std.proofs.lemmas.Bool.Decides.{nat_tests}
 use Rattle.std.proofs.lemmas.List.Elements.{All-nil, All-cons, All-append, All-contains, All-head, All-tail, All-weaker, All-contains_itself, Contains-append_cases, Contains-append_left, Contains-append_right}
@@ -13,10 +12,10 @@ use Rattle.tiff_dirs.specs.Types.{size_of}
 use Rattle.tiff_dirs.specs.Directories.{count_at, end_at, entries_at, entries_from, entry_at, is_apart, span, value_at}
 use Rattle.tiff_dirs.specs.Faults.{entries_fault, fault_at, inner_fault, pictures_fault, place_fault}
 use Rattle.tiff_dirs.specs.Offsets.{Walks}
-use Rattle.tiff_dirs.specs.Overlaps.{Meets, apart_of, dir_span, named_in}
-use Rattle.tiff_dirs.specs.Pictures.{pictures_of, spans_of}
+use Rattle.tiff_dirs.specs.Overlaps.{Meets, apart_of, named_in}
+use Rattle.tiff_dirs.specs.Pictures.{pictures_of}
 use Rattle.tiff_dirs.specs.Tables.{is_table, table_of, tables_at, tables_in}
-use Rattle.tiff_dirs.specs.Tiff.{Dir, dir_at, pictures_at}
+use Rattle.tiff_dirs.specs.Tiff.{dir_at, pictures_at}
 use Rattle.tiff_dirs.proofs.Appended.{directory_in, entries_in_file, no_fault}
 use Rattle.tiff_dirs.proofs.Framed.{layout_widths, or_first, or_second}
 use Rattle.tiff_dirs.proofs.Walks.{split_by}

@@ -9,9 +9,10 @@ pub mod Lying
 pub mod Moved
 pub mod NewFile
 pub mod NewFirst
-pub mod OldBytes
+pub mod Others
 pub mod Plain
 pub mod Readdressed
 pub mod Readdressing
+pub mod Staying
 pub mod Untouched
 pub mod Words
