@@ -105,7 +105,8 @@ all_front P xs ys all = each_range P xs (λ r m. All-contains P (xs ++ ys) r all
 pub all_back : (P : FileSpan → Type 0) (xs ys : List FileSpan) → All P (xs ++ ys) → All P ys
 all_back P xs ys all = each_range P ys (λ r m. All-contains P (xs ++ ys) r all (Contains-append_right xs ys r m))
 
-one_in : (t : Bool) (v r : FileSpan) → Contains (if t then v ∷ [] else []) r → v ≡ r
+-- the value that is listed where the test holds
+pub one_in : (t : Bool) (v r : FileSpan) → Contains (if t then v ∷ [] else []) r → v ≡ r
 one_in true v r (zero, low, is) = is
 one_in true v r (suc k, low, is) = absurd (omega arith)
 one_in false v r (k, low, is) = absurd (omega arith)

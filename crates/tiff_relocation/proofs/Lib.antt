@@ -15,4 +15,5 @@ pub mod Readdressed
 pub mod Readdressing
 pub mod Staying
 pub mod Untouched
+pub mod Walked
 pub mod Words

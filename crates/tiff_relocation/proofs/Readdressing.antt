@@ -1,5 +1,5 @@
 -- The laws of a relocation, where the file has an entry of the packet.
-use Rattle.std.proofs.Common.{◌≡◌, ◌∙◌, ℕ, ◌+◌, ◌*◌, ◌^◌, ◌<◌, ◌≤◌, ◌%◌, Bool, true, List, [], ◌∷◌, ◌++◌, length, map, refl, sym, ap, subst, arith, All, Some}
+use Rattle.std.proofs.Common.{◌≡◌, ◌∙◌, ℕ, ◌+◌, ◌*◌, ◌^◌, ◌<◌, ◌≤◌, true, List, [], ◌∷◌, ◌++◌, length, map, refl, sym, ap, subst, arith, All, Some}
 use Rattle.std.specs.declared.option.Option.{Option}
 use Rattle.std.specs.List.{flat_map}
 use Rattle.std.proofs.lemmas.List.{length-append, length-replicate}
@@ -10,14 +10,14 @@ use Rattle.tiff_dirs.specs.declared.entry.Entry.{Entry}
 use Rattle.tiff_dirs.specs.Layouts.{layout_of}
 use Rattle.tiff_dirs.specs.Types.{is_packet}
 use Rattle.tiff_dirs.specs.Directories.{span}
-use Rattle.tiff_dirs.specs.Model.{Found, IsTiff}
+use Rattle.tiff_dirs.specs.Model.{IsTiff}
 use Rattle.tiff_dirs.specs.Offsets.{Walks}
 use Rattle.tiff_dirs.specs.Overlaps.{NoOverlap, apart_of, named_in, others}
 use Rattle.tiff_dirs.specs.Overlaps.{own as own_range}
 use Rattle.tiff_dirs.specs.Tiff.{Dir, Tiff, dir_at, first_entry, tiff_of}
 use Rattle.tiff_dirs.proofs.Appended.{appended}
 use Rattle.tiff_dirs.proofs.Standing.{entry_stands}
-use Rattle.tiff_relocation.specs.Relocation.{changed_by, copy_by, copy_bytes, even, numbers_by, packet_place, packet_place_by, pad, pad_len, relocated}
+use Rattle.tiff_relocation.specs.Relocation.{changed_by, copy_by, copy_bytes, even, numbers_by, packet_place_by, pad, pad_len, relocated}
 use Rattle.tiff_relocation.specs.Apart.{IsApart, IsMoved, MayMove, not_holding}
 use Rattle.tiff_relocation.proofs.Inside.{EndsIn, IsAway}
 use Rattle.tiff_relocation.proofs.Lying.{even_most}
