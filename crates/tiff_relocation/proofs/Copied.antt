@@ -37,7 +37,7 @@ pub record IsPacket (l : Layout) (v : FileSpan) (f : Entry) : Type 0 where
   pub value : f.value ≡ v
 
 -- a value by whether it stands in its entry
-abbrev value_by : Bool → ℕ → ℕ → ℕ → FileSpan
+abbrev pub value_by : Bool → ℕ → ℕ → ℕ → FileSpan
 value_by near at offset size = if near then span at (at + size) else span offset (offset + size)
 
 far_by : (t : Bool) (word size x y m n : ℕ) → nat_le size word ≡ t → nat_lt word size ≡ true → n ≡ m → value_by t y n size ≡ value_by t x m size
@@ -109,7 +109,7 @@ packet_by : (l : Layout) (f : Entry) (len : ℕ) → f.code ≡ 1 → f.count �
 packet_by l f len code count long =
     ap (λ (c : ℕ). nat_lt l.word (size_of l c * f.count)) code ∙ ap (λ (n : ℕ). nat_lt l.word (1 * n)) count ∙ grind (arith, nat_tests, long)
 
-packet_value : (t : Bool) (word size x n place : ℕ) → nat_le size word ≡ t → word < size → n ≡ place → value_by t x n size ≡ span place (place + size)
+pub packet_value : (t : Bool) (word size x n place : ℕ) → nat_le size word ≡ t → word < size → n ≡ place → value_by t x n size ≡ span place (place + size)
 packet_value true word size x n place e long is = (let short : size ≤ word = grind (arith, nat_tests, e) in absurd (omega (arith, short, long)))
 packet_value false word size x n place e long is = ap (λ (j : ℕ). span j (j + size)) is
 

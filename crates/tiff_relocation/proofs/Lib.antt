@@ -10,6 +10,7 @@ pub mod Moved
 pub mod NewFile
 pub mod NewFirst
 pub mod Plain
+pub mod Readdressed
 pub mod Staying
 pub mod Untouched
 pub mod Words

@@ -36,7 +36,7 @@ found_later false x e rest is h = h
 found_later true x e rest is h = absurd (cc is)
 
 -- two ways to go on, by a test
-cases : (t : Bool) (P : Bool → Type 0) → ((t ≡ true) → P true) → ((t ≡ false) → P false) → P t
+pub cases : (t : Bool) (P : Bool → Type 0) → ((t ≡ true) → P true) → ((t ≡ false) → P false) → P t
 cases true P one other = one refl
 cases false P one other = other refl
 
