@@ -181,7 +181,7 @@ module _ (l : Layout) (a b : List ℕ) where
 
   -- A value that is a file's own, of another tag.
 
-  apart_copied : (e f : Entry) → IsCopy l a b e f → is_apart l f ≡ is_apart l e
+  pub apart_copied : (e f : Entry) → IsCopy l a b e f → is_apart l f ≡ is_apart l e
   apart_copied e f c =
       ap (λ (x : ℕ). nat_lt l.word (size_of l x * f.count)) c.code ∙ ap (λ (n : ℕ). nat_lt l.word (size_of l e.code * n)) c.count
 

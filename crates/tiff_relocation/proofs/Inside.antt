@@ -19,7 +19,7 @@ use Rattle.tiff_dirs.specs.Tiff.{dir_at, pictures_at}
 use Rattle.tiff_dirs.proofs.Appended.{directory_in, entries_in_file, no_fault}
 use Rattle.tiff_dirs.proofs.Framed.{layout_widths, or_first, or_second}
 use Rattle.tiff_dirs.proofs.Walks.{split_by}
-use Rattle.tiff_relocation.proofs.Plain.{spans_inside}
+use Rattle.tiff_relocation.proofs.Plain.{one_in, spans_inside}
 
 -- each of a list's ranges, by its place among them
 pub each_range : (P : FileSpan → Type 0) (rs : List FileSpan) → ((r : FileSpan) → Contains rs r → P r) → All P rs
@@ -104,12 +104,6 @@ all_front P xs ys all = each_range P xs (λ r m. All-contains P (xs ++ ys) r all
 
 pub all_back : (P : FileSpan → Type 0) (xs ys : List FileSpan) → All P (xs ++ ys) → All P ys
 all_back P xs ys all = each_range P ys (λ r m. All-contains P (xs ++ ys) r all (Contains-append_right xs ys r m))
-
--- the value that is listed where the test holds
-pub one_in : (t : Bool) (v r : FileSpan) → Contains (if t then v ∷ [] else []) r → v ≡ r
-one_in true v r (zero, low, is) = is
-one_in true v r (suc k, low, is) = absurd (omega arith)
-one_in false v r (k, low, is) = absurd (omega arith)
 
 -- values of a directory share no byte with a range that shares none with its named ranges
 pub values_away : (l : Layout) (c d : FileSpan) (es : List Entry) → All (IsInline l d) es → IsAway c d → All (IsAway c) (flat_map (apart_of l) es) → (r : FileSpan) → Contains (tables_in es) r → IsAway c r

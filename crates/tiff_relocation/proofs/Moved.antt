@@ -1,7 +1,7 @@
 -- A directory in which the first entry of the packet is another: what the other entries name is the same.
-use Rattle.std.proofs.Common.{◌≡◌, ◌≢◌, ◌==◌, ◌∙◌, ℕ, ◌+◌, ◌≤◌, ◌⊎◌, inl, inr, ◌&&◌, ◌||◌, nat_lt, Bool, true, false, if◌then◌else◌, List, [], ◌∷◌, ◌++◌, refl, sym, ap, subst, arith, Contains, None, Some}
+use Rattle.std.proofs.Common.{◌≡◌, ◌≢◌, ◌==◌, ◌∙◌, ℕ, zero, suc, ◌+◌, ◌*◌, ◌≤◌, ◌<◌, ◌⊎◌, inl, inr, ◌&&◌, ◌||◌, nat_lt, Bool, true, false, if◌then◌else◌, List, [], ◌∷◌, ◌++◌, refl, sym, ap, subst, arith, Contains, None, Some}
 use Rattle.std.specs.declared.option.Option.{Option}
-use Rattle.std.specs.List.{flat_map}
+use Rattle.std.specs.List.{find, flat_map}
 use Rattle.std.proofs.lemmas.Bool.Decides.{nat_tests}
 use Rattle.std.proofs.lemmas.List.Elements.{Contains-append_left, Contains-append_right, Contains-append_cases}
 use Rattle.xmp_base.specs.declared.file_span.FileSpan.{FileSpan}
@@ -10,13 +10,12 @@ use Rattle.tiff_dirs.specs.declared.layout.Layout.{Layout}
 use Rattle.tiff_dirs.specs.declared.entry.Entry.{Entry}
 use Rattle.tiff_dirs.specs.declared.stop.TiffStop.{TiffStop}
 use Rattle.tiff_dirs.specs.Numbers.{numbers}
-use Rattle.tiff_dirs.specs.Types.{size_of, is_offset}
-use Rattle.tiff_dirs.specs.Directories.{span, is_apart, named, named_by}
+use Rattle.tiff_dirs.specs.Types.{size_of, is_offset, is_packet}
+use Rattle.tiff_dirs.specs.Directories.{span, is_apart, named, named_by, named_count}
 use Rattle.tiff_dirs.specs.Faults.{broken, value_out, tag_fault, entry_fault, entries_fault, is_packet_tag}
-use Rattle.tiff_dirs.specs.Overlaps.{apart_of, without}
+use Rattle.tiff_dirs.specs.Overlaps.{apart_of, own_of, without}
 use Rattle.tiff_dirs.specs.Pictures.{Picture, first_of_tag, pair, pictures_of, ranges_of}
 use Rattle.tiff_dirs.proofs.Framed.{or_first, or_second, or_none}
-use Rattle.tiff_relocation.proofs.Inside.{one_in}
 use Rattle.tiff_relocation.proofs.Plain.{without_by}
 
 -- the entry with another count and value
@@ -36,7 +35,7 @@ pub found_later : (t : Bool) (x e : Entry) (rest : Option Entry) → t ≡ false
 found_later false x e rest is h = h
 found_later true x e rest is h = absurd (cc is)
 
--- both ways that a test may go
+-- two ways to go on, by a test
 pub cases : (t : Bool) (P : Bool → Type 0) → ((t ≡ true) → P true) → ((t ≡ false) → P false) → P t
 cases true P one other = one refl
 cases false P one other = other refl
@@ -111,6 +110,11 @@ module _ (f : Entry) (own : f.tag ≡ 700) where
         cases (x.tag == 700) (λ t. without 700 (if t then f ∷ xs else x ∷ exchange f xs) ≡ without 700 (x ∷ xs))
         (λ is. without_by l [] [] 700 true f xs is_own ∙ sym (without_by l [] [] 700 true x xs is))
         (λ is. without_by l [] [] 700 false x (exchange f xs) is ∙ ap (λ (t : List Entry). x ∷ t) (without_own xs) ∙ sym (without_by l [] [] 700 false x xs is))
+
+    one_in : (t : Bool) (v r : FileSpan) → Contains (if t then v ∷ [] else []) r → v ≡ r
+    one_in true v r (zero, low, is) = is
+    one_in true v r (suc k, low, is) = absurd (omega arith)
+    one_in false v r (k, low, is) = absurd (omega arith)
 
     -- the new value, or one of the others
     own_first : (x : Entry) (xs : List FileSpan) (r : FileSpan) → Contains (apart_of l f ++ xs) r → (f.value ≡ r) ⊎ Contains (apart_of l x ++ xs) r
