@@ -1,5 +1,5 @@
 -- The new file is walked, whether the old one has an entry of the packet or not.
-use Rattle.std.proofs.Common.{◌≡◌, List, ℕ, refl, None, Some}
+use Rattle.std.proofs.Common.{◌≡◌, refl, None, Some}
 use Rattle.std.specs.declared.option.Option.{Option}
 use Rattle.tiff_dirs.specs.declared.entry.Entry.{Entry}
 use Rattle.tiff_dirs.specs.Tiff.{first_entry}

@@ -1,7 +1,7 @@
 -- A directory in which the first entry of the packet is another: what the other entries name is the same.
-use Rattle.std.proofs.Common.{◌≡◌, ◌≢◌, ◌==◌, ◌∙◌, ℕ, zero, suc, ◌+◌, ◌*◌, ◌≤◌, ◌<◌, ◌⊎◌, inl, inr, ◌&&◌, ◌||◌, nat_lt, Bool, true, false, if◌then◌else◌, List, [], ◌∷◌, ◌++◌, refl, sym, ap, subst, arith, Contains, None, Some}
+use Rattle.std.proofs.Common.{◌≡◌, ◌≢◌, ◌==◌, ◌∙◌, ℕ, zero, suc, ◌+◌, ◌≤◌, ◌⊎◌, inl, inr, ◌&&◌, ◌||◌, nat_lt, Bool, true, false, if◌then◌else◌, List, [], ◌∷◌, ◌++◌, refl, sym, ap, subst, arith, Contains, None, Some}
 use Rattle.std.specs.declared.option.Option.{Option}
-use Rattle.std.specs.List.{find, flat_map}
+use Rattle.std.specs.List.{flat_map}
 use Rattle.std.proofs.lemmas.Bool.Decides.{nat_tests}
 use Rattle.std.proofs.lemmas.List.Elements.{Contains-append_left, Contains-append_right, Contains-append_cases}
 use Rattle.xmp_base.specs.declared.file_span.FileSpan.{FileSpan}
@@ -10,10 +10,10 @@ use Rattle.tiff_dirs.specs.declared.layout.Layout.{Layout}
 use Rattle.tiff_dirs.specs.declared.entry.Entry.{Entry}
 use Rattle.tiff_dirs.specs.declared.stop.TiffStop.{TiffStop}
 use Rattle.tiff_dirs.specs.Numbers.{numbers}
-use Rattle.tiff_dirs.specs.Types.{size_of, is_offset, is_packet}
-use Rattle.tiff_dirs.specs.Directories.{span, is_apart, named, named_by, named_count}
+use Rattle.tiff_dirs.specs.Types.{size_of, is_offset}
+use Rattle.tiff_dirs.specs.Directories.{span, is_apart, named, named_by}
 use Rattle.tiff_dirs.specs.Faults.{broken, value_out, tag_fault, entry_fault, entries_fault, is_packet_tag}
-use Rattle.tiff_dirs.specs.Overlaps.{apart_of, own_of, without}
+use Rattle.tiff_dirs.specs.Overlaps.{apart_of, without}
 use Rattle.tiff_dirs.specs.Pictures.{Picture, first_of_tag, pair, pictures_of, ranges_of}
 use Rattle.tiff_dirs.proofs.Framed.{or_first, or_second, or_none}
 use Rattle.tiff_relocation.proofs.Plain.{without_by}

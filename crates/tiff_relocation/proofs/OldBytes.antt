@@ -1,5 +1,5 @@
 -- What a relocation exchanges lies in the old file, behind the bytes that tell its layout; all other old bytes stay.
-use Rattle.std.proofs.Common.{◌≡◌, ◌≢◌, ◌∙◌, ℕ, zero, suc, ◌+◌, ◌-◌, ◌*◌, ◌<◌, ◌≤◌, ◌⊎◌, inl, inr, ◌==◌, ◌&&◌, not, nat_le, nat_lt, Bool, true, false, if◌then◌else◌, List, [], ◌∷◌, ◌++◌, length, map, take, drop, refl, sym, ap, subst, arith, All, Contains, None, Some}
+use Rattle.std.proofs.Common.{◌≡◌, ◌≢◌, ◌∙◌, ℕ, zero, suc, ◌+◌, ◌-◌, ◌*◌, ◌<◌, ◌≤◌, ◌⊎◌, inl, inr, ◌==◌, ◌&&◌, not, nat_le, nat_lt, Bool, true, false, if◌then◌else◌, List, [], ◌∷◌, ◌++◌, length, map, take, drop, refl, sym, ap, subst, arith, All, None, Some}
 use Rattle.std.specs.declared.option.Option.{Option}
 use Rattle.std.specs.List.{flat_map, slice_get}
 use Rattle.std.proofs.lemmas.Bool.Decides.{nat_tests}
@@ -16,7 +16,7 @@ use Rattle.tiff_dirs.specs.Directories.{count_at, end_at, entries_at, is_apart, 
 use Rattle.tiff_dirs.specs.Types.{is_packet}
 use Rattle.tiff_dirs.specs.Faults.{broken, fault_at, inner_fault, place_fault}
 use Rattle.tiff_dirs.specs.Frames.{Agree, bytes_in}
-use Rattle.tiff_dirs.specs.Model.{Found, IsTiff}
+use Rattle.tiff_dirs.specs.Model.{Found}
 use Rattle.tiff_dirs.specs.Offsets.{Walks, all_named}
 use Rattle.tiff_dirs.specs.Overlaps.{apart_of, dir_span, named_in, others, own_of, place_of, without}
 use Rattle.tiff_dirs.specs.Overlaps.{own as own_range}

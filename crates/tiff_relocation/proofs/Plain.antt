@@ -1,5 +1,5 @@
 -- The faults of a grown directory, and the values that stand apart from its entries.
-use Rattle.std.proofs.Common.{◌≡◌, ◌≢◌, ◌==◌, ◌∙◌, ℕ, zero, suc, ◌+◌, ◌*◌, ◌≤◌, ◌⊎◌, inl, inr, ◌&&◌, ◌||◌, not, nat_lt, Bool, true, false, if◌then◌else◌, List, [], ◌∷◌, ◌++◌, take, drop, refl, sym, ap, subst, arith, All, Contains, None, Some}
+use Rattle.std.proofs.Common.{◌≡◌, ◌≢◌, ◌==◌, ◌∙◌, ℕ, zero, suc, ◌+◌, ◌≤◌, ◌⊎◌, inl, inr, ◌&&◌, ◌||◌, not, nat_lt, Bool, true, false, if◌then◌else◌, List, [], ◌∷◌, ◌++◌, take, drop, refl, sym, ap, subst, arith, All, Contains, None, Some}
 use Rattle.std.specs.declared.option.Option.{Option}
 use Rattle.std.specs.List.{flat_map}
 use Rattle.std.proofs.lemmas.Bool.Decides.{nat_tests}
@@ -9,7 +9,7 @@ use Rattle.xmp_values.specs.declared.rules.Rule.TheVariants.{PacketType, RegionO
 use Rattle.tiff_dirs.specs.declared.layout.Layout.{Layout}
 use Rattle.tiff_dirs.specs.declared.entry.Entry.{Entry}
 use Rattle.tiff_dirs.specs.declared.stop.TiffStop.{TiffStop}
-use Rattle.tiff_dirs.specs.Types.{is_packet, size_of}
+use Rattle.tiff_dirs.specs.Types.{is_packet}
 use Rattle.tiff_dirs.specs.Directories.{is_apart}
 use Rattle.tiff_dirs.specs.Faults.{broken, entries_fault, entry_fault, is_packet_tag, packet_fault, pictures_fault, tag_fault, value_out}
 use Rattle.tiff_dirs.specs.Overlaps.{apart_of, place_of, without}

@@ -1,14 +1,14 @@
 -- The new file of one that has an entry of the packet: count and offset in that entry are exchanged, and the packet stands behind the old bytes.
-use Rattle.std.proofs.Common.{◌≡◌, ◌≢◌, ◌∙◌, ℕ, zero, suc, ◌+◌, ◌-◌, ◌*◌, ◌^◌, ◌<◌, ◌≤◌, ◌⊎◌, inl, inr, ◌==◌, ◌&&◌, ◌||◌, nat_le, Bool, true, false, if◌then◌else◌, List, [], ◌∷◌, ◌++◌, length, map, take, drop, refl, sym, ap, subst, arith, append_assoc, All, Contains, None, Some}
+use Rattle.std.proofs.Common.{◌≡◌, ◌≢◌, ◌∙◌, ℕ, zero, suc, ◌+◌, ◌-◌, ◌*◌, ◌^◌, ◌<◌, ◌≤◌, inl, inr, ◌==◌, ◌&&◌, ◌||◌, nat_le, Bool, true, false, if◌then◌else◌, List, [], ◌∷◌, ◌++◌, length, map, take, drop, refl, sym, ap, subst, arith, append_assoc, All, Contains, None, Some}
 use Rattle.std.specs.declared.option.Option.{Option}
 use Rattle.std.specs.List.{flat_map, list_any}
 use Rattle.std.proofs.lemmas.Bool.Decides.{nat_tests}
 use Rattle.std.proofs.lemmas.List.{drop-append-le, length-append, take-append-le}
-use Rattle.std.proofs.lemmas.List.Elements.{All-nil, All-append, All-contains, All-head, All-tail, All-weaker, Contains-append_cases, Contains-append_left, Contains-append_right}
+use Rattle.std.proofs.lemmas.List.Elements.{All-nil, All-append, All-contains, All-head, All-tail, All-weaker, Contains-append_cases, Contains-append_left}
 use Rattle.std.proofs.lemmas.Option.{slice_get-get_or}
 use Rattle.xmp_base.specs.Device.{put_at}
 use Rattle.xmp_base.specs.declared.file_span.FileSpan.{FileSpan}
-use Rattle.xmp_values.specs.declared.rules.Rule.TheVariants.{DirectoryOut, DirectoryTwice, TooManyDirectories}
+use Rattle.xmp_values.specs.declared.rules.Rule.TheVariants.{DirectoryTwice, TooManyDirectories}
 use Rattle.tiff_dirs.specs.declared.layout.Layout.{Layout}
 use Rattle.tiff_dirs.specs.declared.entry.Entry.{Entry}
 use Rattle.tiff_dirs.specs.declared.stop.TiffStop.{TiffStop}
@@ -21,7 +21,7 @@ use Rattle.tiff_dirs.specs.Frames.{Agree, bytes_in}
 use Rattle.tiff_dirs.specs.Offsets.{Walks, all_named, first_offset}
 use Rattle.tiff_dirs.specs.Overlaps.{Clear, NoOverlap, apart_of, dir_span, named_in, others, own_of, without}
 use Rattle.tiff_dirs.specs.Overlaps.{own as own_range}
-use Rattle.tiff_dirs.specs.Pictures.{Picture, first_of_tag, pictures_of, spans_of}
+use Rattle.tiff_dirs.specs.Pictures.{first_of_tag, pictures_of, spans_of}
 use Rattle.tiff_dirs.specs.Tables.{is_table, table_of, tables_at, tables_in}
 use Rattle.tiff_dirs.specs.Tiff.{Dir, Tiff, dir_at, pictures_at, tiff_of}
 use Rattle.tiff_dirs.specs.Model.{Found, IsTiff}
