@@ -1,4 +1,17 @@
+pub mod Copied
+pub mod CopyBytes
+pub mod Copying
 pub mod Finding
+pub mod Grown
+pub mod Inside
 pub mod Lengths
 pub mod Lying
+pub mod Moved
+pub mod NewFile
+pub mod NewFirst
+pub mod OldBytes
+pub mod Plain
+pub mod Readdressed
+pub mod Readdressing
+pub mod Untouched
 pub mod Words

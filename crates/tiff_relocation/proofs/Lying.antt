@@ -22,10 +22,10 @@ use Rattle.tiff_relocation.specs.Relocation.{changed_by, copy_by, entries_before
 use Rattle.tiff_relocation.specs.Moves.{Lies, LiesIn, relocation_of}
 
 -- entries stand one after another
-abbrev StandsIn : Layout → ℕ → ℕ → Entry → Type 0
+abbrev pub StandsIn : Layout → ℕ → ℕ → Entry → Type 0
 StandsIn l from to e = (from ≤ e.place) × (e.place + l.entry ≤ to)
 
-entries_stand : (l : Layout) (file : List ℕ) (from place to n : ℕ) → from ≤ place → place + l.entry * n ≤ to → All (StandsIn l from to) (entries_from l file place n)
+pub entries_stand : (l : Layout) (file : List ℕ) (from place to n : ℕ) → from ≤ place → place + l.entry * n ≤ to → All (StandsIn l from to) (entries_from l file place n)
 unfolding entry_at
 entries_stand l file from place to zero low high = All-nil (StandsIn l from to)
 entries_stand l file from place to (suc n) low high =
@@ -33,14 +33,14 @@ entries_stand l file from place to (suc n) low high =
     All-cons (StandsIn l from to) (entry_at l file place) (entries_from l file (place + l.entry) n) (low, omega (arith, high, more))
     (entries_stand l file from (place + l.entry) to n (omega (arith, low)) (omega (arith, high, more)))
 
-entries_count : (l : Layout) (file : List ℕ) (place n : ℕ) → length (entries_from l file place n) ≡ n
+pub entries_count : (l : Layout) (file : List ℕ) (place n : ℕ) → length (entries_from l file place n) ≡ n
 entries_count l file place zero = refl
 entries_count l file place (suc n) = ap suc (entries_count l file (place + l.entry) n)
 
-before_all : (es : List Entry) → entries_before es ≤ length es
+pub before_all : (es : List Entry) → entries_before es ≤ length es
 before_all es = prefix_len-le-length (λ (e : Entry). not (nat_lt 700 e.tag)) es
 
-even_most : (size : ℕ) → (size ≤ even size) × (even size ≤ size + 1)
+pub even_most : (size : ℕ) → (size ≤ even size) × (even size ≤ size + 1)
 even_most size = (omega arith, omega arith)
 
 module _ (l : Layout) (w : Widths l) (file : List ℕ) (at : ℕ) (here : end_at l file at ≤ length file) (header : l.header ≤ length file) (short : length file ≤ 2 ^ 60) where
