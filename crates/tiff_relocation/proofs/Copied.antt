@@ -1,5 +1,5 @@
 -- Entries of a directory's copy: each has the numbers of the one that it was copied from, wherever its value stands.
-use Rattle.std.proofs.Common.{◌≡◌, ◌∙◌, ℕ, zero, suc, ◌+◌, ◌*◌, ◌^◌, ◌<◌, ◌≤◌, nat_le, nat_lt, Bool, true, false, if◌then◌else◌, List, [], ◌∷◌, ◌++◌, length, take, drop, refl, sym, ap, arith, append_assoc, All}
+use Rattle.std.proofs.Common.{◌≡◌, ◌∙◌, ℕ, ◌+◌, ◌*◌, ◌^◌, ◌<◌, ◌≤◌, nat_le, nat_lt, Bool, true, false, if◌then◌else◌, List, ◌++◌, length, take, drop, refl, sym, ap, arith, append_assoc}
 use Rattle.std.proofs.lemmas.Bool.Decides.{nat_tests}
 use Rattle.std.proofs.lemmas.List.{drop-drop, drop_at}
 use Rattle.byteorder.specs.Numbers.{big_number-reads_back, length-bytes_high_first, length-bytes_low_first, little_number-reads_back}
@@ -11,7 +11,7 @@ use Rattle.tiff_dirs.specs.declared.entry.Entry.{Entry}
 use Rattle.tiff_dirs.specs.Layouts.{Widths}
 use Rattle.tiff_dirs.specs.Numbers.{number, numbers}
 use Rattle.tiff_dirs.specs.Types.{size_of}
-use Rattle.tiff_dirs.specs.Directories.{span, value_at, entry_at, entries_from, is_apart}
+use Rattle.tiff_dirs.specs.Directories.{span, value_at, entry_at, is_apart}
 use Rattle.tiff_dirs.specs.Frames.{bytes_in}
 use Rattle.tiff_dirs.proofs.Frames.{numbers_same}
 use Rattle.tiff_dirs.proofs.Piece.{number_part, numbers_part}
@@ -82,11 +82,11 @@ module _ (l : Layout) (w : Widths l) (a b : List ℕ) (p q len : ℕ) (same : ta
         code = code;
         count = count;
         items = λ n few. ap (λ (s : ℕ). numbers l.big item (value_at l b (y + 4 + l.word) s).start n b) size
-        ∙ items_by l.big a b (nat_le old l.word) l.word old item (number l.big l.word (x + 4) a) (x + 4 + l.word) (y + 4 + l.word)
-        (number l.big l.word (x + 4 + l.word) a) (number l.big l.word (y + 4 + l.word) b) refl refl offset
-        (λ j short. numbers_moved l.big item (k + 4 + l.word) (x + 4 + l.word) (y + 4 + l.word) j (omega (arith, wide, h, short)) (omega (arith, e)) (omega (arith, f))) kept n few;
+            ∙ items_by l.big a b (nat_le old l.word) l.word old item (number l.big l.word (x + 4) a) (x + 4 + l.word) (y + 4 + l.word)
+            (number l.big l.word (x + 4 + l.word) a) (number l.big l.word (y + 4 + l.word) b) refl refl offset
+            (λ j short. numbers_moved l.big item (k + 4 + l.word) (x + 4 + l.word) (y + 4 + l.word) j (omega (arith, wide, h, short)) (omega (arith, e)) (omega (arith, f))) kept n few;
         apart = λ far. ap (value_at l b (y + 4 + l.word)) size
-        ∙ far_by (nat_le old l.word) l.word old (x + 4 + l.word) (y + 4 + l.word) (number l.big l.word (x + 4 + l.word) a) (number l.big l.word (y + 4 + l.word) b) refl far offset;
+            ∙ far_by (nat_le old l.word) l.word old (x + 4 + l.word) (y + 4 + l.word) (number l.big l.word (x + 4 + l.word) a) (number l.big l.word (y + 4 + l.word) b) refl far offset;
       }
 
 -- What stands behind a part, and the number of its bytes.

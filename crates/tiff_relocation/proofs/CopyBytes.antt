@@ -1,15 +1,14 @@
 -- Where the parts of a directory's copy stand, and that its entries are those of the old one with the packet's among them.
-use Rattle.std.proofs.Common.{◌≡◌, ◌∙◌, ℕ, zero, suc, ◌+◌, ◌-◌, ◌*◌, ◌^◌, ◌<◌, ◌≤◌, Bool, true, false, List, [], ◌∷◌, ◌++◌, length, take, drop, refl, sym, ap, subst, arith, append_assoc, All}
+use Rattle.std.proofs.Common.{◌≡◌, ◌∙◌, ℕ, zero, suc, ◌+◌, ◌*◌, ◌^◌, ◌<◌, ◌≤◌, List, ◌++◌, length, take, drop, refl, sym, ap, subst, arith, append_assoc, All}
 use Rattle.std.proofs.lemmas.List.{length-append, length-drop, length-take-le, take_at}
 use Rattle.std.proofs.lemmas.List.Elements.{All-head, All-tail}
 use Rattle.xmp_base.specs.declared.file_span.FileSpan.{FileSpan}
 use Rattle.tiff_dirs.specs.declared.layout.Layout.{Layout}
-use Rattle.tiff_dirs.specs.declared.entry.Entry.{Entry}
 use Rattle.tiff_dirs.specs.Layouts.{Widths}
 use Rattle.tiff_dirs.specs.Numbers.{number}
 use Rattle.tiff_dirs.specs.Directories.{span, count_at, end_at, entries_at, entries_from, entry_at, next_place}
 use Rattle.tiff_relocation.specs.Relocation.{number_bytes, packet_entry}
-use Rattle.tiff_relocation.proofs.Copied.{IsCopy, IsKept, IsPacket, behind, bytes_length, entry_copied, number_moved, packet_written, reads_back}
+use Rattle.tiff_relocation.proofs.Copied.{IsKept, IsPacket, behind, bytes_length, entry_copied, number_moved, packet_written, reads_back}
 use Rattle.tiff_relocation.proofs.Grown.{AreCopies, HasPacket}
 
 -- The directory at a place of one file is a copy of that of another, cut in two by a packet's entry.
@@ -27,8 +26,7 @@ module _ (l : Layout) (w : Widths l) (a b : List ℕ) where
   copies_from p q len same j zero x y h e f kept = tt
   copies_from p q len same j (suc n) x y h e f kept =
       let more : l.entry * suc n ≡ l.entry * n + l.entry = omega arith in
-      let rest = entries_from l a (x + l.entry) n in
-      (
+      let rest = entries_from l a (x + l.entry) n in (
         entry_copied l w a b p q len same j x y (omega (arith, h, more)) e f (All-head (IsKept l a b) (entry_at l a x) rest kept),
         copies_from p q len same (j + l.entry) n (x + l.entry) (y + l.entry) (omega (arith, h, more)) (omega (arith, e)) (omega (arith, f)) (All-tail (IsKept l a b) (entry_at l a x) rest kept),
       )
@@ -39,8 +37,7 @@ module _ (l : Layout) (w : Widths l) (a b : List ℕ) where
     grown_from zero n j x y is far e f kept =
         let here : y ≡ new + l.count + l.entry * k = omega (arith, far, f) in
         let past : x ≡ at + l.count + l.entry * k = omega (arith, far, e) in
-        let all : n ≡ m = omega (arith, is) in
-        (
+        let all : n ≡ m = omega (arith, is) in (
           subst (λ (z : ℕ). IsPacket l v (entry_at l b z)) (sym here) copy.packet,
           copies_from (at + l.count + l.entry * k) (new + l.count + l.entry * k + l.entry) (l.entry * m + l.word) copy.after 0 n x (y + l.entry)
               (let product : l.entry * n ≡ l.entry * m = ap (λ (z : ℕ). l.entry * z) all in omega (arith, product)) (omega (arith, past)) (omega (arith, here)) kept,
@@ -48,8 +45,7 @@ module _ (l : Layout) (w : Widths l) (a b : List ℕ) where
     grown_from (suc i) zero j x y is far e f kept = absurd (omega (arith, is))
     grown_from (suc i) (suc n) j x y is far e f kept =
         let more : l.entry * suc i ≡ l.entry * i + l.entry = omega arith in
-        let rest = entries_from l a (x + l.entry) n in
-        (
+        let rest = entries_from l a (x + l.entry) n in (
           entry_copied l w a b (at + l.count) (new + l.count) (l.entry * k) copy.before j x y (omega (arith, far, more)) e f (All-head (IsKept l a b) (entry_at l a x) rest kept),
           grown_from i n (j + l.entry) (x + l.entry) (y + l.entry) (omega (arith, is)) (omega (arith, far, more)) (omega (arith, e)) (omega (arith, f)) (All-tail (IsKept l a b) (entry_at l a x) rest kept),
         )
@@ -100,9 +96,15 @@ module _ (l : Layout) (w : Widths l) (a b more : List ℕ) (at new k m len place
       let offset = number_bytes l.big l.word place in
       let size = w.entry in
       omega (
-        arith, size,
-        length-append tag (code ++ (count ++ offset)), length-append code (count ++ offset), length-append count offset,
-        bytes_length l.big 2 700, bytes_length l.big 2 1, bytes_length l.big l.word len, bytes_length l.big l.word place,
+        arith,
+        size,
+        length-append tag (code ++ (count ++ offset)),
+        length-append code (count ++ offset),
+        length-append count offset,
+        bytes_length l.big 2 700,
+        bytes_length l.big 2 1,
+        bytes_length l.big l.word len,
+        bytes_length l.big l.word place,
       )
 
   pub copy_stands : drop new b ≡ (head ++ (first ++ (entry ++ last))) ++ more → k + m + 1 < 256 ^ l.count → l.word < len → len < 256 ^ l.word → place < 256 ^ l.word

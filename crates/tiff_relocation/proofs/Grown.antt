@@ -1,13 +1,13 @@
 -- Directories whose entries are copies of others, with a packet's entry among them: what is read by them is the same.
-use Rattle.std.proofs.Common.{◌≡◌, ◌≢◌, ◌==◌, ◌∙◌, ℕ, zero, suc, ◌+◌, ◌*◌, ◌<◌, ◌≤◌, ◌&&◌, ◌||◌, not, nat_lt, min, Bool, true, false, if◌then◌else◌, List, [], ◌∷◌, ◌++◌, map, refl, sym, ap, subst, arith, All, None, Some}
+use Rattle.std.proofs.Common.{◌≡◌, ◌≢◌, ◌==◌, ◌∙◌, ℕ, zero, suc, ◌+◌, ◌*◌, ◌≤◌, ◌&&◌, ◌||◌, nat_lt, Bool, true, false, if◌then◌else◌, List, [], ◌∷◌, ◌++◌, refl, sym, ap, arith, None, Some}
 use Rattle.std.specs.declared.option.Option.{Option}
-use Rattle.std.specs.List.{find, flat_map}
+use Rattle.std.specs.List.{flat_map}
 use Rattle.std.proofs.lemmas.Bool.Decides.{nat_tests}
 use Rattle.std.proofs.lemmas.List.{map-append}
 use Rattle.xmp_base.specs.declared.file_span.FileSpan.{FileSpan}
 use Rattle.tiff_dirs.specs.declared.layout.Layout.{Layout}
 use Rattle.tiff_dirs.specs.declared.entry.Entry.{Entry}
-use Rattle.tiff_dirs.specs.Numbers.{number, numbers}
+use Rattle.tiff_dirs.specs.Numbers.{numbers}
 use Rattle.tiff_dirs.specs.Types.{is_offset, is_packet, is_picture, is_wide, size_of}
 use Rattle.tiff_dirs.specs.Directories.{is_apart, named, named_by, named_count}
 use Rattle.tiff_dirs.specs.Overlaps.{own_of}
@@ -181,7 +181,7 @@ module _ (l : Layout) (a b : List ℕ) where
 
   -- A value that is a file's own, of another tag.
 
-  apart_copied : (e f : Entry) → IsCopy l a b e f → is_apart l f ≡ is_apart l e
+  pub apart_copied : (e f : Entry) → IsCopy l a b e f → is_apart l f ≡ is_apart l e
   apart_copied e f c =
       ap (λ (x : ℕ). nat_lt l.word (size_of l x * f.count)) c.code ∙ ap (λ (n : ℕ). nat_lt l.word (size_of l e.code * n)) c.count
 

@@ -1,6 +1,5 @@
 -- Named ranges lie in the file, and the tables of a directory in its named ranges.
-use Rattle.std.proofs.Common.{◌≡◌, ◌∙◌, ℕ, zero, suc, ◌+◌, ◌*◌, ◌<◌, ◌≤◌, ◌⊎◌, inl, inr, ◌==◌, nat_le, nat_lt, Bool, true, false, if◌then◌else◌, List, [], ◌∷◌, ◌++◌, length, map, refl, sym, ap, subst, arith, All, Contains, None}
-use Rattle.std.specs.declared.option.Option.{Option}
+use Rattle.std.proofs.Common.{◌≡◌, ℕ, zero, suc, ◌+◌, ◌*◌, ◌<◌, ◌≤◌, inl, inr, ◌==◌, nat_le, nat_lt, Bool, true, false, if◌then◌else◌, List, [], ◌∷◌, ◌++◌, length, map, refl, subst, arith, All, Contains, None}
 use Rattle.std.specs.List.{flat_map}
 use Rattle.std.proofs.lemmas.Bool.Decides.{nat_tests}
 use Rattle.std.proofs.lemmas.List.Elements.{All-nil, All-cons, All-append, All-contains, All-head, All-tail, All-weaker, All-contains_itself, Contains-append_cases, Contains-append_left, Contains-append_right}
@@ -13,14 +12,14 @@ use Rattle.tiff_dirs.specs.Types.{size_of}
 use Rattle.tiff_dirs.specs.Directories.{count_at, end_at, entries_at, entries_from, entry_at, is_apart, span, value_at}
 use Rattle.tiff_dirs.specs.Faults.{entries_fault, fault_at, inner_fault, pictures_fault, place_fault}
 use Rattle.tiff_dirs.specs.Offsets.{Walks}
-use Rattle.tiff_dirs.specs.Overlaps.{Meets, apart_of, dir_span, named_in}
-use Rattle.tiff_dirs.specs.Pictures.{pictures_of, spans_of}
+use Rattle.tiff_dirs.specs.Overlaps.{Meets, apart_of, named_in}
+use Rattle.tiff_dirs.specs.Pictures.{pictures_of}
 use Rattle.tiff_dirs.specs.Tables.{is_table, table_of, tables_at, tables_in}
-use Rattle.tiff_dirs.specs.Tiff.{Dir, dir_at, pictures_at}
+use Rattle.tiff_dirs.specs.Tiff.{dir_at, pictures_at}
 use Rattle.tiff_dirs.proofs.Appended.{directory_in, entries_in_file, no_fault}
 use Rattle.tiff_dirs.proofs.Framed.{layout_widths, or_first, or_second}
 use Rattle.tiff_dirs.proofs.Walks.{split_by}
-use Rattle.tiff_relocation.proofs.Plain.{spans_inside}
+use Rattle.tiff_relocation.proofs.Plain.{one_in, spans_inside}
 
 -- each of a list's ranges, by its place among them
 pub each_range : (P : FileSpan → Type 0) (rs : List FileSpan) → ((r : FileSpan) → Contains rs r → P r) → All P rs
@@ -105,11 +104,6 @@ all_front P xs ys all = each_range P xs (λ r m. All-contains P (xs ++ ys) r all
 
 pub all_back : (P : FileSpan → Type 0) (xs ys : List FileSpan) → All P (xs ++ ys) → All P ys
 all_back P xs ys all = each_range P ys (λ r m. All-contains P (xs ++ ys) r all (Contains-append_right xs ys r m))
-
-one_in : (t : Bool) (v r : FileSpan) → Contains (if t then v ∷ [] else []) r → v ≡ r
-one_in true v r (zero, low, is) = is
-one_in true v r (suc k, low, is) = absurd (omega arith)
-one_in false v r (k, low, is) = absurd (omega arith)
 
 -- values of a directory share no byte with a range that shares none with its named ranges
 pub values_away : (l : Layout) (c d : FileSpan) (es : List Entry) → All (IsInline l d) es → IsAway c d → All (IsAway c) (flat_map (apart_of l) es) → (r : FileSpan) → Contains (tables_in es) r → IsAway c r

@@ -4,6 +4,7 @@ pub mod Copying
 pub mod Finding
 pub mod Grown
 pub mod Inside
+pub mod Joined
 pub mod Lengths
 pub mod Lying
 pub mod Moved

@@ -1,9 +1,9 @@
 -- The new file of one that has no entry of the packet: its first directory is a copy, behind the old bytes.
-use Rattle.std.proofs.Common.{◌≡◌, ◌∙◌, ℕ, zero, suc, ◌+◌, ◌-◌, ◌*◌, ◌%◌, ◌^◌, ◌<◌, ◌≤◌, ◌⊎◌, inl, inr, ◌==◌, ◌&&◌, Bool, true, false, if◌then◌else◌, List, [], ◌∷◌, ◌++◌, length, map, take, drop, refl, sym, ap, subst, arith, All, Contains, None, Some}
+use Rattle.std.proofs.Common.{◌≡◌, ◌∙◌, ℕ, ◌+◌, ◌-◌, ◌*◌, ◌^◌, ◌<◌, ◌≤◌, inl, inr, ◌==◌, ◌&&◌, Bool, true, false, if◌then◌else◌, List, [], ◌∷◌, ◌++◌, length, map, take, drop, refl, sym, ap, subst, arith, All, Contains, None, Some}
 use Rattle.std.specs.declared.option.Option.{Option}
 use Rattle.std.specs.List.{flat_map}
 use Rattle.std.proofs.lemmas.List.{length-append, length-replicate}
-use Rattle.std.proofs.lemmas.List.Elements.{All-cons, All-append, All-contains, All-head, All-tail, All-weaker, Contains-append_cases, Contains-append_left, Contains-append_right}
+use Rattle.std.proofs.lemmas.List.Elements.{All-cons, All-append, All-contains, All-head, All-tail, All-weaker, Contains-append_left, Contains-append_right}
 use Rattle.xmp_base.specs.Device.{put_at}
 use Rattle.xmp_base.specs.declared.file_span.FileSpan.{FileSpan}
 use Rattle.tiff_dirs.specs.declared.layout.Layout.{Layout}
@@ -11,12 +11,12 @@ use Rattle.tiff_dirs.specs.declared.entry.Entry.{Entry}
 use Rattle.tiff_dirs.specs.Layouts.{Widths, layout_by, layout_of}
 use Rattle.tiff_dirs.specs.Numbers.{number}
 use Rattle.tiff_dirs.specs.Types.{is_packet}
-use Rattle.tiff_dirs.specs.Directories.{children, count_at, end_at, entries_at, is_apart, span}
+use Rattle.tiff_dirs.specs.Directories.{count_at, end_at, entries_at, is_apart, span}
 use Rattle.tiff_dirs.specs.Faults.{fault_at}
 use Rattle.tiff_dirs.specs.Frames.{Agree, bytes_in}
 use Rattle.tiff_dirs.specs.Model.{Found, IsTiff}
 use Rattle.tiff_dirs.specs.Offsets.{Walks, first_offset}
-use Rattle.tiff_dirs.specs.Overlaps.{Clear, Meets, NoOverlap, apart_of, dir_span, named_in, others, others_in, own, own_of, without}
+use Rattle.tiff_dirs.specs.Overlaps.{Clear, NoOverlap, apart_of, dir_span, named_in, others, own, own_of, without}
 use Rattle.tiff_dirs.specs.Pictures.{first_of_tag}
 use Rattle.tiff_dirs.specs.Tables.{tables_at}
 use Rattle.tiff_dirs.specs.Tiff.{Dir, Tiff, dir_at, first_entry, pictures_at, tiff_of}
@@ -25,7 +25,7 @@ use Rattle.tiff_dirs.proofs.Exchanged.{exchanged as exchanged_first}
 use Rattle.tiff_dirs.proofs.Framed.{layout_widths}
 use Rattle.tiff_dirs.proofs.Frames.{number_same}
 use Rattle.tiff_dirs.proofs.Shown.{find_all}
-use Rattle.tiff_relocation.specs.Relocation.{copy_by, copy_bytes, copy_len, cut_place, entries_before, even, number_bytes, packet_entry, packet_place_by, pad, pad_len}
+use Rattle.tiff_relocation.specs.Relocation.{copy_by, copy_bytes, cut_place, entries_before, even, number_bytes, packet_entry, packet_place_by, pad, pad_len}
 use Rattle.tiff_relocation.proofs.Copied.{IsKept, IsPacket, behind, bytes_length, reads_back}
 use Rattle.tiff_relocation.proofs.CopyBytes.{HasCopy, copy_stands, end_moved}
 use Rattle.tiff_relocation.proofs.Grown.{HasPacket, found_grown, own_copied}

@@ -1,19 +1,18 @@
 -- The first directory of the new file: it names the directories and the pictures of the old one, and has no fault.
-use Rattle.std.proofs.Common.{◌≡◌, ◌∙◌, ℕ, zero, suc, ◌+◌, ◌-◌, ◌*◌, ◌<◌, ◌≤◌, ◌==◌, ◌&&◌, not, nat_le, nat_lt, Bool, true, false, if◌then◌else◌, List, [], ◌∷◌, ◌++◌, length, refl, sym, ap, subst, arith, All, None, Some}
+use Rattle.std.proofs.Common.{◌≡◌, ◌∙◌, ℕ, ◌+◌, ◌<◌, ◌≤◌, ◌&&◌, not, nat_le, nat_lt, Bool, true, false, if◌then◌else◌, List, [], ◌++◌, length, refl, sym, ap, subst, arith, All, None, Some}
 use Rattle.std.specs.declared.option.Option.{Option}
 use Rattle.std.specs.List.{flat_map}
 use Rattle.std.proofs.lemmas.Bool.Decides.{nat_tests}
 use Rattle.xmp_base.specs.declared.file_span.FileSpan.{FileSpan}
 use Rattle.xmp_values.specs.declared.rules.Rule.TheVariants.{DirectoryLong, DirectoryOut}
 use Rattle.tiff_dirs.specs.declared.layout.Layout.{Layout}
-use Rattle.tiff_dirs.specs.declared.entry.Entry.{Entry}
 use Rattle.tiff_dirs.specs.declared.stop.TiffStop.{TiffStop}
 use Rattle.tiff_dirs.specs.declared.stop.TiffStop.TheVariants.{Fault}
 use Rattle.tiff_dirs.specs.Layouts.{Widths}
 use Rattle.tiff_dirs.specs.Numbers.{number}
 use Rattle.tiff_dirs.specs.Directories.{chained, children, count_at, end_at, entries_at, named, next_place}
 use Rattle.tiff_dirs.specs.Faults.{broken, entries_fault, fault_at, inner_fault, pictures_fault, place_fault}
-use Rattle.tiff_dirs.specs.Pictures.{first_of_tag, pictures_of, spans_of}
+use Rattle.tiff_dirs.specs.Pictures.{first_of_tag, pictures_of}
 use Rattle.tiff_dirs.specs.Tiff.{pictures_at}
 use Rattle.tiff_dirs.proofs.Framed.{or_first, or_second, or_none}
 use Rattle.tiff_relocation.proofs.Copied.{IsKept}

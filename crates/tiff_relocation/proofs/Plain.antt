@@ -1,7 +1,7 @@
 -- The faults of a grown directory, and the values that stand apart from its entries.
-use Rattle.std.proofs.Common.{◌≡◌, ◌≢◌, ◌==◌, ◌∙◌, ℕ, zero, suc, ◌+◌, ◌*◌, ◌<◌, ◌≤◌, ◌⊎◌, inl, inr, ◌&&◌, ◌||◌, not, nat_lt, Bool, true, false, if◌then◌else◌, List, [], ◌∷◌, ◌++◌, take, drop, map, refl, sym, ap, subst, arith, All, Contains, None, Some}
+use Rattle.std.proofs.Common.{◌≡◌, ◌≢◌, ◌==◌, ◌∙◌, ℕ, zero, suc, ◌+◌, ◌*◌, ◌≤◌, ◌⊎◌, inl, inr, ◌&&◌, ◌||◌, not, nat_lt, Bool, true, false, if◌then◌else◌, List, [], ◌∷◌, ◌++◌, take, drop, refl, sym, ap, subst, arith, All, Contains, None, Some}
 use Rattle.std.specs.declared.option.Option.{Option}
-use Rattle.std.specs.List.{find, flat_map}
+use Rattle.std.specs.List.{flat_map}
 use Rattle.std.proofs.lemmas.Bool.Decides.{nat_tests}
 use Rattle.std.proofs.lemmas.List.Elements.{All-nil, All-cons, All-head, All-tail, Contains-append_left, Contains-append_right, Contains-append_cases}
 use Rattle.xmp_base.specs.declared.file_span.FileSpan.{FileSpan}
@@ -16,7 +16,7 @@ use Rattle.tiff_dirs.specs.Overlaps.{apart_of, place_of, without}
 use Rattle.tiff_dirs.specs.Pictures.{Picture, first_of_tag, spans_of}
 use Rattle.tiff_dirs.proofs.Framed.{or_first, or_second, or_none}
 use Rattle.tiff_relocation.proofs.Copied.{IsCopy, IsPacket}
-use Rattle.tiff_relocation.proofs.Grown.{AreCopies, HasPacket}
+use Rattle.tiff_relocation.proofs.Grown.{AreCopies, HasPacket, apart_copied}
 
 -- no packet's entry, and its value is not out of a file of so many bytes
 pub record IsPlain (l : Layout) (len : ℕ) (e : Entry) : Type 0 where
@@ -81,10 +81,13 @@ unseen_by : (seen t : Bool) → seen ≡ false → t ≡ false → (seen || t) �
 unseen_by false t p q = q
 unseen_by true t p q = absurd (cc p)
 
-module _ (l : Layout) (a b : List ℕ) where
-  apart_copied : (e f : Entry) → IsCopy l a b e f → is_apart l f ≡ is_apart l e
-  apart_copied e f c = ap (λ (x : ℕ). nat_lt l.word (size_of l x * f.count)) c.code ∙ ap (λ (n : ℕ). nat_lt l.word (size_of l e.code * n)) c.count
+-- the only range of a value that may be named
+pub one_in : (t : Bool) (v r : FileSpan) → Contains (if t then v ∷ [] else []) r → v ≡ r
+one_in true v r (zero, low, is) = is
+one_in true v r (suc k, low, is) = absurd (omega arith)
+one_in false v r (k, low, is) = absurd (omega arith)
 
+module _ (l : Layout) (a b : List ℕ) where
   still_by : (s t : Bool) (len more : ℕ) (x y : FileSpan) → t ≡ s → (s ≡ true → y ≡ x) → len ≤ more → (s && nat_lt len x.end) ≡ false → (t && nat_lt more y.end) ≡ false
   still_by true true len more x y is same longer e = (let end : y.end ≡ x.end = ap (λ (r : FileSpan). r.end) (same refl) in grind (arith, nat_tests, end, longer, e))
   still_by false false len more x y is same longer e = refl
@@ -93,7 +96,7 @@ module _ (l : Layout) (a b : List ℕ) where
 
   plain_copied : (len more : ℕ) (e f : Entry) → len ≤ more → IsCopy l a b e f → IsPlain l len e → IsPlain l more f
   plain_copied len more e f longer c p = record {
-    inside = still_by (is_apart l e) (is_apart l f) len more e.value f.value (apart_copied e f c) c.apart longer p.inside;
+    inside = still_by (is_apart l e) (is_apart l f) len more e.value f.value (apart_copied l a b e f c) c.apart longer p.inside;
     other = ap (λ (x : ℕ). x == 700) c.tag ∙ p.other;
   }
 
@@ -145,7 +148,7 @@ module _ (l : Layout) (a b : List ℕ) where
   one_apart false true x y is same = absurd (cc is)
 
   apart_one : (e f : Entry) → IsCopy l a b e f → apart_of l f ≡ apart_of l e
-  apart_one e f c = one_apart (is_apart l e) (is_apart l f) e.value f.value (apart_copied e f c) c.apart
+  apart_one e f c = one_apart (is_apart l e) (is_apart l f) e.value f.value (apart_copied l a b e f c) c.apart
 
   apart_copies : (es fs : List Entry) → AreCopies l a b es fs → flat_map (apart_of l) fs ≡ flat_map (apart_of l) es
   apart_copies [] [] c = refl
@@ -153,11 +156,6 @@ module _ (l : Layout) (a b : List ℕ) where
   apart_copies (e ∷ es) [] c = absurd c
   apart_copies (e ∷ es) (f ∷ fs) c =
       ap (λ (t : List FileSpan). t ++ flat_map (apart_of l) fs) (apart_one e f c.0) ∙ ap (λ (t : List FileSpan). apart_of l e ++ t) (apart_copies es fs c.1)
-
-  one_in : (t : Bool) (v r : FileSpan) → Contains (if t then v ∷ [] else []) r → v ≡ r
-  one_in true v r (zero, low, is) = is
-  one_in true v r (suc k, low, is) = absurd (omega arith)
-  one_in false v r (k, low, is) = absurd (omega arith)
 
   -- the packet, or one of the others
   apart_packet : (v : FileSpan) (f : Entry) (xs : List FileSpan) (r : FileSpan) → IsPacket l v f → Contains (apart_of l f ++ xs) r → (v ≡ r) ⊎ Contains xs r
