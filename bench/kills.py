@@ -1,11 +1,11 @@
 #!/usr/bin/env python3
 """Kills `xmp patch` at random moments, and looks at what it leaves of the file.
 
-    bench/kills.py PROGRAM [--runs 1000] [--properties 20000] [--seed 1] [--photograph]
+    bench/kills.py PROGRAM [--runs 1000] [--properties 20000] [--seed 1] [--kind sidecar]
 
 PROGRAM is a built `xmp` (crates/xmp/out/xmp after `rt run`). Each run patches a sidecar with a
-packet that has room for the edit, or with --photograph a JPEG file of 50 MB with such a packet, and is killed after a random part of the time that a whole run
-takes. Of each file that is left there are four kinds: the old bytes, the new ones, a closed packet
+packet that has room for the edit, or a file of 50 MB with such a packet, of the kind jpeg, tiff or bigtiff,
+and is killed after a random part of the time that a whole run takes. Of each file that is left there are four kinds: the old bytes, the new ones, a closed packet
 (a space, then the new bytes up to some place and the old ones after it) which `xmp tree` refuses,
 and anything else, which is an error. Nothing of this is in the gate.
 """
@@ -15,16 +15,19 @@ import collections
 import os
 import random
 import signal
+import struct
 import subprocess
 import sys
 import tempfile
 import time
+from struct import pack
 
 HEADER = '<?xpacket begin="\ufeff" id="W5M0MpCehiHzreSzNTczkc9d"?>\n'
 TRAILER = '<?xpacket end="w"?>'
 RDF = "http://www.w3.org/1999/02/22-rdf-syntax-ns#"
 SIGNATURE = b"http://ns.adobe.com/xap/1.0/\0"
 REFUSED = 3
+STRIP = 25_000_000
 QUIET = {"stdout": subprocess.DEVNULL, "stderr": subprocess.DEVNULL}
 
 
@@ -42,6 +45,33 @@ def photograph(packet: bytes) -> bytes:
     """A JPEG file with this packet, and a scan of 50 MB."""
     payload = SIGNATURE + packet
     return b"\xff\xd8\xff\xe1" + (len(payload) + 2).to_bytes(2, "big") + payload + b"\xff\xda" + bytes(50_000_000) + b"\xff\xd9"
+
+
+def image(packet: bytes, wide: bool) -> bytes:
+    """A TIFF or BigTIFF file of two strips of 25 MB, and after them the packet."""
+    head, number, entry = ("<HHH", "Q", "<HHQQ") if wide else ("<H", "I", "<HHII")
+    first = pack(head, 43, 8, 0) if wide else pack(head, 42)
+    at = 16 if wide else 8
+    count = pack("<Q" if wide else "<H", 3)
+    tables = at + len(count) + 3 * struct.calcsize(entry) + struct.calcsize(number)
+    strips = tables + 16
+    behind = strips + 2 * STRIP
+    entries = [(273, 4, 2, tables), (279, 4, 2, tables + 8), (700, 1, len(packet), behind)]
+    if wide:
+        # two numbers of 32 bits stand in their entry
+        entries[0] = (273, 4, 2, strips | (strips + STRIP) << 32)
+        entries[1] = (279, 4, 2, STRIP | STRIP << 32)
+    directory = count + b"".join(pack(entry, *one) for one in entries) + pack("<" + number, 0)
+    numbers = pack("<IIII", strips, strips + STRIP, STRIP, STRIP)
+    return b"II" + first + pack("<" + number, at) + directory + numbers + bytes(2 * STRIP) + packet
+
+
+KINDS = {
+    "sidecar": lambda packet: packet,
+    "jpeg": photograph,
+    "tiff": lambda packet: image(packet, False),
+    "bigtiff": lambda packet: image(packet, True),
+}
 
 
 def patch(program: str, photo: str, script: str) -> subprocess.Popen:
@@ -96,13 +126,11 @@ def main() -> int:
     parser.add_argument("--runs", type=int, default=1000)
     parser.add_argument("--properties", type=int, default=20000)
     parser.add_argument("--seed", type=int, default=1)
-    parser.add_argument("--photograph", action="store_true")
+    parser.add_argument("--kind", choices=KINDS, default="sidecar")
     arguments = parser.parse_args()
     program = os.path.abspath(arguments.program)
     moments = random.Random(arguments.seed)
-    old = sidecar(arguments.properties)
-    if arguments.photograph:
-        old = photograph(old)
+    old = KINDS[arguments.kind](sidecar(arguments.properties))
     with tempfile.TemporaryDirectory() as folder:
         photo, script = os.path.join(folder, "photo.xmp"), os.path.join(folder, "script")
         write(script, b"set a:p0 another value\n")

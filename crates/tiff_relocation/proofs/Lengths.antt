@@ -2,7 +2,6 @@
 use Rattle.std.proofs.Common.{◌≡◌, ◌∙◌, ℕ, ◌+◌, ◌-◌, ◌*◌, ◌≤◌, ◌%◌, Bool, true, false, List, [], ◌∷◌, ◌++◌, length, take, drop, refl, sym, ap, arith, append_assoc, Some, None}
 use Rattle.std.specs.declared.option.Option.{Option}
 use Rattle.std.proofs.lemmas.List.{length-append, length-drop, length-take-le, length-replicate, drop_at}
-use Rattle.byteorder.specs.Numbers.{length-bytes_high_first, length-bytes_low_first}
 use Rattle.xmp_base.specs.Device.{put_at}
 use Rattle.xmp_base.specs.declared.file_span.FileSpan.{FileSpan}
 use Rattle.xmp_base.proofs.Ranges.{put_length}
@@ -14,17 +13,13 @@ use Rattle.tiff_dirs.specs.Frames.{bytes_in}
 use Rattle.tiff_dirs.specs.Tiff.{Dir, Tiff, first_entry}
 use Rattle.tiff_relocation.specs.Relocation.{changed, changed_by, copy_by, copy_bytes, copy_len, cut_place, even, first_dir, new_copy, new_numbers, number_bytes, numbers_by, packet_entry, packet_place, packet_place_by, pad, pad_len, relocated}
 use Rattle.tiff_relocation.specs.Moves.{Lies, LiesIn, relocation_of}
-
-number_length : (big : Bool) (width n : ℕ) → length (number_bytes big width n) ≡ width
-unfolding number_bytes
-number_length true width n = length-bytes_high_first width n
-number_length false width n = length-bytes_low_first 0 width n
+use Rattle.tiff_relocation.proofs.Copied.{bytes_length}
 
 pub numbers_len : (l : Layout) (size len : ℕ) (o : Option Entry) → length (numbers_by l size len o) ≡ (changed_by l o).end - (changed_by l o).start
-numbers_len l size len None = let n = number_length l.big l.word (even size) in omega (arith, n)
+numbers_len l size len None = let n = bytes_length l.big l.word (even size) in omega (arith, n)
 numbers_len l size len (Some e) =
-    let first = number_length l.big l.word len in
-    let second = number_length l.big l.word (even size) in
+    let first = bytes_length l.big l.word len in
+    let second = bytes_length l.big l.word (even size) in
     omega (arith, length-append (number_bytes l.big l.word len) (number_bytes l.big l.word (even size)), first, second)
 
 -- the bytes of a range that lies in the file
@@ -38,9 +33,15 @@ entry_len l len place w =
     let count = number_bytes l.big l.word len in
     let offset = number_bytes l.big l.word place in
     omega (
-      arith, w.entry,
-      length-append tag (code ++ (count ++ offset)), length-append code (count ++ offset), length-append count offset,
-      number_length l.big 2 700, number_length l.big 2 1, number_length l.big l.word len, number_length l.big l.word place,
+      arith,
+      w.entry,
+      length-append tag (code ++ (count ++ offset)),
+      length-append code (count ++ offset),
+      length-append count offset,
+      bytes_length l.big 2 700,
+      bytes_length l.big 2 1,
+      bytes_length l.big l.word len,
+      bytes_length l.big l.word place,
     )
 
 pub copy_length : (l : Layout) (file : List ℕ) (d : Dir) (len : ℕ) (o : Option Entry) → Widths l
@@ -55,9 +56,17 @@ copy_length l file d len None w before after =
     let first_is = range_len file (span (d.at + l.count) (cut_place l d)) before in
     let last_is = range_len file (span (cut_place l d) d.end) after in
     omega (
-      arith, before.0, after.0, w.entry,
-      length-append head (first ++ (entry ++ last)), length-append first (entry ++ last), length-append entry last,
-      number_length l.big l.count (length d.entries + 1), first_is, entry_len l len (packet_place_by l (length file) d None) w, last_is,
+      arith,
+      before.0,
+      after.0,
+      w.entry,
+      length-append head (first ++ (entry ++ last)),
+      length-append first (entry ++ last),
+      length-append entry last,
+      bytes_length l.big l.count (length d.entries + 1),
+      first_is,
+      entry_len l len (packet_place_by l (length file) d None) w,
+      last_is,
     )
 
 module _ (file : List ℕ) (tiff : Tiff) (packet : List ℕ) (lies : Lies (relocation_of (length file) tiff)) where
@@ -81,8 +90,12 @@ module _ (file : List ℕ) (tiff : Tiff) (packet : List ℕ) (lies : Lies (reloc
   front_len =
       let copy = copy_length tiff.layout file (first_dir tiff.dirs) (length packet) (first_entry 700 tiff.dirs) lies.widths lies.before lies.after in
       omega (
-        arith, exchanged_len, copy,
-        length-append (put_at file (changed tiff).start numbers) (pad (length file) ++ copied), length-append (pad (length file)) copied, length-replicate {A = ℕ} (pad_len (length file)) 0,
+        arith,
+        exchanged_len,
+        copy,
+        length-append (put_at file (changed tiff).start numbers) (pad (length file) ++ copied),
+        length-append (pad (length file)) copied,
+        length-replicate {A = ℕ} (pad_len (length file)) 0,
       )
 
   whole : relocated file tiff packet ≡ front ++ packet

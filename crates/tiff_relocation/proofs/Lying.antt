@@ -62,8 +62,7 @@ module _ (l : Layout) (w : Widths l) (file : List ℕ) (at : ℕ) (here : end_at
       let double = w.header in
       let least = w.least_word in
       let most = w.most_word in
-      let size = w.entry in
-      (
+      let size = w.entry in (
         (omega arith, omega (arith, header, double)),
         (omega arith, omega (arith, here, cut_low)),
         (omega (arith, cut_low), here),

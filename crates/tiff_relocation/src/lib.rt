@@ -5,7 +5,9 @@
 //! `xmp_base`, `xmp_values` and `byteorder`. TIFF 6.0, section 2; XMP Specification Part 3, TIFF.
 #![tactic(auto)]
 
+mod laws;
 mod numbers;
 mod relocation;
 
+pub use laws::{new_file_is_walked, old_bytes_stay};
 pub use relocation::Relocation;

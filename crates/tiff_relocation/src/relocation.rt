@@ -11,6 +11,7 @@ use xmp_values::Memory;
 
 /// The tag of the packet's entry, and its type, BYTE.
 const PACKET_TAG: u16 = 700;
+
 const BYTE: u64 = 1;
 
 /// The longest file whose places are counted.

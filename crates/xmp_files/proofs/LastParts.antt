@@ -99,3 +99,19 @@ module _ (size : ℕ) (tiff : Tiff) (packet : List ℕ) where
       by_result (Ok exchange) h = h ∙ goal_is
       by_result (Err (faults.Fault fault)) h = h ∙ goal_is
       by_result (Err faults.Memory) h = tt
+
+-- new bytes that are added one part after another
+pub added : (r : Relocation) (packet : List ℕ) (len : ℕ) (i0 i1 i2 i3 i4 : List ℕ) (ends : Ends) → i0 ≡ [] → i1 ≡ i0 ++ numbers r len → i2 ≡ i1 ++ (pad r.size ++ copy_head r) → i3 ≡ i2 ++ copy_entry r len
+    → i4 ≡ i3 ++ packet → length packet ≡ len → ends.numbers ≡ length i1 → ends.head ≡ length i2 → ends.entry ≡ length i3 → ends.packet ≡ length i4 → AreNew r packet i4 ends
+added r packet len i0 i1 i2 i3 i4 ends none first second third last long at1 at2 at3 at4 =
+    let b : List ℕ = pad r.size ++ copy_head r in
+    let one : i1 ≡ numbers r (length packet) = first ∙ ap (λ (l : List ℕ). l ++ numbers r len) none ∙ ap (numbers r) (sym long) in
+    let two : i2 ≡ numbers r (length packet) ++ b = second ∙ ap (λ (l : List ℕ). l ++ b) one in
+    let three : i3 ≡ numbers r (length packet) ++ b ++ copy_entry r (length packet) = third ∙ (λ i. two i ++ copy_entry r (sym long i)) in
+    record {
+      is = last ∙ ap (λ (l : List ℕ). l ++ packet) three;
+      numbers_end = at1 ∙ ap length one;
+      head_end = at2 ∙ ap length two;
+      entry_end = at3 ∙ ap length three;
+      packet_end = at4;
+    }

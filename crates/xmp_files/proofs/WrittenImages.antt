@@ -23,7 +23,8 @@ use Rattle.tiff_relocation.specs.Moves.{Lies, relocation_of}
 use Rattle.tiff_relocation.proofs.Lengths.{ends_with_packet, relocated_len}
 use Rattle.tiff_relocation.proofs.Words.{held_by_words}
 use Rattle.tiff_relocation.proofs.Lying.{relocation_lies}
-use Rattle.tiff_relocation.proofs.Moved.{new_file_is_walked, old_bytes_stay}
+use Rattle.tiff_relocation.proofs.Joined.{new_file_is_walked}
+use Rattle.tiff_relocation.proofs.OldBytes.{old_bytes_stay}
 use Rattle.xmp_files.specs.Faults.{file_limit, packet_limit}
 use Rattle.xmp_files.specs.Keeping.{Piece}
 use Rattle.xmp_files.specs.Photographs.{piece_at}
