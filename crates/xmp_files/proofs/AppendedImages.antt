@@ -105,7 +105,7 @@ module _ (old : List ℕ) (tiff : Tiff) (packet : List ℕ) (lies : Lies (reloca
       (λ r is. subst (λ (s : FileSpan). (s.start ≤ s.end) × (s.end ≤ length old)) (sym is) lies.after) in
       let b = before _ first in
       let a = after _ last in
-      (omega arith, omega (arith, lies.changed.0, lies.changed.1), omega (arith, lies.changed.1), omega arith, b.0, b.1, a.0, a.1, tt)
+      (omega arith, omega (arith, lies.changed.0, lies.changed.1), (omega (arith, lies.changed.1), omega arith, (b.0, b.1, (a.0, a.1, tt))))
 
   pub appended_len : length (relocated old tiff packet) ≡ parts_len (appended_parts (length old) tiff packet)
   appended_len = ap length (sym appended_bytes) ∙ parts_long old (appended_parts (length old) tiff packet) appended_in

@@ -30,6 +30,15 @@ middle x y z items i j is from to =
     let long : j - i ≡ length y = omega (arith, from, to, length-append x y) in
     ap (take (j - i)) rest ∙ ap (λ (n : ℕ). take n (y ++ z)) long ∙ take_at y z (length y) refl
 
+-- parts that lie, one by one
+abbrev PartsLie : ℕ → ℕ → List FilePart → Type 0
+PartsLie size count [] = Unit {0}
+PartsLie size count (p ∷ ps) = PartLies size count p × PartsLie size count ps
+
+parts_all : (size count : ℕ) (ps : List FilePart) → PartsLie size count ps → All (PartLies size count) ps
+parts_all size count [] lie = All-nil (PartLies size count)
+parts_all size count (p ∷ ps) lie = All-cons (PartLies size count) p ps lie.0 (parts_all size count ps lie.1)
+
 module _ (r : Relocation) (packet items : List ℕ) (ends : Ends) (new : AreNew r packet items ends) where
   abbrev a : List ℕ
   a = numbers r (length packet)
@@ -57,20 +66,20 @@ module _ (r : Relocation) (packet items : List ℕ) (ends : Ends) (new : AreNew 
 
   pub parts_lie : Lies r → All (PartLies r.size (length items)) (last_parts r ends)
   parts_lie lies =
-      let P : FilePart → Type 0 = PartLies r.size (length items) in
       let one = length-append a b in
       let two = length-append (a ++ b) c in
       let three = length-append (a ++ b ++ c) packet in
       let whole = ap length new.is in
-      All-cons P _ _ (omega arith, omega (arith, lies.changed.0, lies.changed.1))
-      (All-cons P _ _ (omega arith, omega (arith, new.numbers_end, one, two, three, whole))
-      (All-cons P _ _ (omega (arith, lies.changed.1), omega arith)
-      (All-cons P _ _ (omega (arith, new.numbers_end, new.head_end, one), omega (arith, new.head_end, two, three, whole))
-      (All-cons P _ _ lies.before
-      (All-cons P _ _ (omega (arith, new.head_end, new.entry_end, two), omega (arith, new.entry_end, three, whole))
-      (All-cons P _ _ lies.after
-      (All-cons P _ _ (omega (arith, new.entry_end, new.packet_end, three, whole), omega (arith, new.packet_end))
-      (All-nil P))))))))
+      parts_all r.size (length items) (last_parts r ends)
+      ((omega arith, omega (arith, lies.changed.0, lies.changed.1)),
+      ((omega arith, omega (arith, new.numbers_end, one, two, three, whole)),
+      ((omega (arith, lies.changed.1), omega arith),
+      ((omega (arith, new.numbers_end, new.head_end, one), omega (arith, new.head_end, two, three, whole)),
+      (lies.before,
+      ((omega (arith, new.head_end, new.entry_end, two), omega (arith, new.entry_end, three, whole)),
+      (lies.after,
+      ((omega (arith, new.entry_end, new.packet_end, three, whole), omega (arith, new.packet_end)),
+      tt))))))))
 
 -- Why a packet doesn't come to the end of a file, and what comes there.
 module _ (size : ℕ) (tiff : Tiff) (packet : List ℕ) where

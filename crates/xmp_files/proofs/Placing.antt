@@ -27,11 +27,6 @@ use Rattle.xmp_files.specs.Planning.{Edited, New, Plan, Same, InPlace, Relocated
 use Rattle.xmp_files.specs.Plans.{packet_of, room_of, put_over, told, padding, least_of, whole_form, unmoved, IsDivided, IsRelocation, OrRelocation, IsMoved, IsPlanned, stays, fits, exchanged, digest_pieces, put_among, put_last, segment_padded, segments_text}
 use Rattle.xmp_files.specs.Planneds.{AmongAnswer, DivideAnswer, LastAnswer, MoveAnswer, PlanAnswer, plan_of}
 
--- an option of a reference
-pub copied_some : {T : Type 0} (o : Option (Bor T)) → is_some (option_copied o) ≡ is_some o
-copied_some None = refl
-copied_some (Some x) = refl
-
 -- a packet that fits is put over the payload
 pub placed : (payload : Option Piece) (container : Container) (joined : Bool) (least : ℕ) (e : Edited) → fits payload joined least ≡ true
     → InPlace (exchanged payload e ++ digest_pieces container e.digest) ≡ put_over payload (packet_of e (room_of payload))

@@ -68,7 +68,7 @@ pub record IsLast (container : Container) (e : Edited) (plan : Plan) : Type 0 wh
 abbrev pub Becomes : Option Piece → Container → List FileSpan → Edited → Plan → Type 0
 Becomes payload container portions e plan =
     ((e.new ≡ e.old) × ((plan ≡ Same) ⊎ (plan ≡ InPlace [])))
-    ⊎ ((e.new ≢ e.old) × (IsExchange payload e plan ⊎ (IsAnew container e plan ⊎ (IsAmong container portions e plan ⊎ IsBoth container portions e plan))))
+    ⊎ ((e.new ≢ e.old) × (IsExchange payload e plan ⊎ (IsAnew container e plan ⊎ (IsAmong container portions e plan ⊎ (IsBoth container portions e plan ⊎ IsLast container e plan)))))
 
 pub no_digest : (container : Container) (digest : Option (List ℕ)) → digest_pieces container digest ≡ []
 no_digest Text digest = refl

@@ -135,7 +135,7 @@ fn over_out(size: u64) -> Fault
 
 /// The new file of these parts, with ranges of an old one of `size` bytes, or its length is over the limit.
 pub fn within_out(size: u64, parts: Vec<FilePart>, bytes: Bytes) -> Result<Exchange, FaultStop>
-    requires lie { All (PartLies size (length bytes)) parts.items }
+    requires { All (PartLies size (length bytes)) parts.items }
     ensures step { PartsAnswer (parts_at bytes parts.items) result }
     ensures lies { IfOk result (ExchangeLies size) }
 {
