@@ -89,7 +89,7 @@ module _ (source : Source) (patch : Bool) (file : List ℕ) (files : Files) (kep
     holds : HoldsTree (Some (bytes_of files file)) e.old
     holds = (x.opened, (Ok k, here, x.opens), sym (edited_old source files x.opened.meaning e x.edits))
 
-    good : (Apart k.container → NoStray (bytes_of files file) k.container k.portions e n → HoldsTree (Some (planned_file (bytes_of files file) n)) e.new)
+    good : (Apart k.container n → NoStray (bytes_of files file) k.container k.portions e n → HoldsTree (Some (planned_file (bytes_of files file) n)) e.new)
         × Frame k n (bytes_of files file) (planned_file (bytes_of files file) n)
     good = let w = file_written Packet (bytes_of files file) k x.opened.joined patch e n here x.planned holds may in (w.0, w.1)
 

@@ -55,5 +55,5 @@ Patched other files s t = Unit {0}
 -- What a command that edits has written, where it is done: the file is read as the new tree, under the two conditions on the old file, and
 -- keeps what its plan says.
 pub record Written (old new : Option (List ℕ)) (kept : Kept) (edited : Edited) (plan : Plan) : Type 0 where
-  pub reads_back : Apart kept.container → ((before : List ℕ) → old ≡ Some before → NoStray before kept.container kept.portions edited plan) → HoldsTree new edited.new
+  pub reads_back : Apart kept.container plan → ((before : List ℕ) → old ≡ Some before → NoStray before kept.container kept.portions edited plan) → HoldsTree new edited.new
   pub frame : (before after : List ℕ) → old ≡ Some before → new ≡ Some after → Frame kept plan before after

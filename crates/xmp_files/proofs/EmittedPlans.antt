@@ -87,7 +87,7 @@ planned_by file kept e plan whole stands near (inr (same, inl x)) = planned_exch
 planned_by file kept e plan whole stands near (inr (same, inr (inl x))) = absurd (subst IsNear x.is near)
 planned_by file kept e plan whole stands near (inr (same, inr (inr (inl x)))) = absurd (subst IsNear x.is near)
 planned_by file kept e plan whole stands near (inr (same, inr (inr (inr (inl x))))) = absurd (subst IsNear x.is near)
-planned_by file kept e plan whole stands near (inr (same, inr (inr (inr (inl x))))) = absurd (subst IsNear x.is near)
+planned_by file kept e plan whole stands near (inr (same, inr (inr (inr (inr x))))) = absurd (subst IsNear x.is near)
 
 -- a file that was loaded is there
 pub loaded_there : (need : Need) (file : Option (List ℕ)) (kept : Kept) → IsLoaded need file (Ok kept) → file ≡ Some (unwrap_or file [])
@@ -127,7 +127,7 @@ size_by kept e plan lies near (inr (same, inl x)) = size_exchange kept.size kept
 size_by kept e plan lies near (inr (same, inr (inl x))) = absurd (subst IsNear x.is near)
 size_by kept e plan lies near (inr (same, inr (inr (inl x)))) = absurd (subst IsNear x.is near)
 size_by kept e plan lies near (inr (same, inr (inr (inr (inl x))))) = absurd (subst IsNear x.is near)
-size_by kept e plan lies near (inr (same, inr (inr (inr (inl x))))) = absurd (subst IsNear x.is near)
+size_by kept e plan lies near (inr (same, inr (inr (inr (inr x))))) = absurd (subst IsNear x.is near)
 
 near_len : (held : Kept) (new : Plan) → IsPlanFor held new → IsOfSize held.size held → IsNear new → parts_len (near_parts held.payload new held.size) ≡ planned_len held.size new
 near_len held new plan lies near =

@@ -159,11 +159,6 @@ module _ (decided : DocumentOrFault) (need : Need) (old : List ℕ) (kept : Kept
     ]
 
 -- a file that is changed in its place has no portion that could stray
-apart_any : (container : Container) → Apart container
-apart_any Text = tt
-apart_any (Segments regions) = tt
-apart_any (Directories size tiff) = tt
-
 stray_near : (file : List ℕ) (container : Container) (joined : List FileSpan) (e : Edited) (pieces : List Piece) → NoStray file container joined e (InPlace pieces)
 stray_near file Text joined e pieces = tt
 stray_near file (Segments regions) joined e pieces = tt
@@ -177,7 +172,8 @@ file_patched decided need old kept joined e plan loaded fixed planned holds may 
     by_plan (inr x) =
         let written = (file_written need old kept joined true e plan loaded planned holds may).0 in
         let stray = subst (NoStray old kept.container kept.portions e) (sym x.is) (stray_near old kept.container kept.portions e _) in
-        exchange_left decided need old kept e plan loaded holds payload there now as_long (written (apart_any kept.container) stray) x left
+        let apart : Apart kept.container plan = subst (Apart kept.container) (sym x.is) tt in
+        exchange_left decided need old kept e plan loaded holds payload there now as_long (written apart stray) x left
 
 -- what `patch` needs to exchange a packet, and what that does
 pub record PutFacts (size : ℕ) (payload : Option Piece) (plan : Plan) (at : ℕ) (old new : List ℕ) : Type 0 where

@@ -1,5 +1,5 @@
 -- Whatever the plan, the new file holds the new tree.
-use Rattle.std.proofs.Common.{◌≡◌, ◌⊎◌, ℕ, ◌+◌, ◌<◌, ◌≤◌, List, [], ◌∷◌, ◌++◌, length, Some, None, Ok, refl, inl, inr, arith, sym, ap, subst, ◌∙◌, length-append}
+use Rattle.std.proofs.Common.{◌≡◌, ◌⊎◌, ℕ, ◌+◌, ◌<◌, ◌≤◌, true, List, [], ◌∷◌, ◌++◌, length, Some, None, Ok, refl, inl, inr, arith, sym, ap, subst, ◌∙◌, length-append}
 use Rattle.std.proofs.lemmas.List.{append-nil}
 use Rattle.xmp_base.specs.Device.{put_at}
 use Rattle.xmp_base.specs.declared.file_span.FileSpan.{FileSpan}
@@ -22,7 +22,7 @@ use Rattle.tiff_relocation.specs.Relocation.{packet_place, relocated, tells}
 use Rattle.tiff_relocation.specs.Apart.{IsApart}
 use Rattle.tiff_relocation.specs.Moves.{Lies, relocation_of}
 use Rattle.xmp_files.specs.Planning.{Edited, Plan, Same, InPlace, Relocated, Agree, Frame, KeepsPictures, parts_bytes, parts_len, planned_file}
-use Rattle.xmp_files.specs.Plans.{packet_of, least_of, padding, whole_form, segment_padded, segments_text, parts_around, rest_text, named_front, front_least, front_packet, appended_parts, planned_len, MayPlan, Apart, NoStray}
+use Rattle.xmp_files.specs.Plans.{packet_of, least_of, padding, whole_form, segment_padded, segments_text, parts_around, rest_text, named_front, front_least, front_packet, appended_parts, planned_len, MayPlan, Apart, IsApartIn, NoStray}
 use Rattle.xmp_files.specs.Written.{FileIsWritten}
 use Rattle.xmp_files.proofs.Agreeing.{put_agrees}
 use Rattle.xmp_files.proofs.ExchangedPackets.{Stands, loaded_stands, same_piece, whole_piece}
@@ -45,7 +45,7 @@ Good kept old e plan = HoldsTree (Some (planned_file old plan)) e.new × Frame k
 -- where no portion strays
 abbrev GoodUnstrayed : Kept → List ℕ → Edited → Plan → Type 0
 GoodUnstrayed kept old e plan =
-    (Apart kept.container → NoStray old kept.container kept.portions e plan → HoldsTree (Some (planned_file old plan)) e.new)
+    (Apart kept.container plan → NoStray old kept.container kept.portions e plan → HoldsTree (Some (planned_file old plan)) e.new)
     × Frame kept plan old (planned_file old plan) × (length (planned_file old plan) ≡ planned_len (length old) plan)
 
 always : (kept : Kept) (old : List ℕ) (e : Edited) (plan : Plan) → Good kept old e plan → GoodUnstrayed kept old e plan
@@ -246,7 +246,7 @@ module _ (need : Need) (old : List ℕ) (kept : Kept) (e : Edited) (plan : Plan)
     fits_last : tells x.tiff.layout (packet_place (length old) x.tiff + length last) ≡ true
     fits_last = ap (λ (n : ℕ). tells x.tiff.layout (packet_place n x.tiff + length last)) (sym size_is) ∙ x.tells
 
-    apart_in : (container : Container) → container ≡ Directories x.size x.tiff → Apart container → IsApart x.tiff
+    apart_in : (container : Container) → container ≡ Directories x.size x.tiff → IsApartIn container → IsApart x.tiff
     apart_in Text is apart = absurd (cc is)
     apart_in (Segments regions) is apart = absurd (cc is)
     apart_in (Directories size tiff) is apart = let same : tiff ≡ x.tiff = (let h : Directories size tiff ≡ Directories x.size x.tiff = is in cc) in subst IsApart same apart

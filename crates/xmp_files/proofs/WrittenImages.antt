@@ -40,8 +40,9 @@ room_by (Some e) d h = tt
 
 module _ (old : List ℕ) (tiff : Tiff) (walked : IsTiff old tiff) (small : length old ≤ file_limit) (packet : List ℕ) where
   abbrev new : List ℕ
-  abbrev place : ℕ
   new = relocated old tiff packet
+
+  abbrev place : ℕ
   place = packet_place (length old) tiff
 
   pub lies : Lies (relocation_of (length old) tiff)

@@ -226,10 +226,15 @@ pub record MayPlan (t : Parts) (hints : List Hint) : Type 0 where
 
 -- Two conditions on the old file, under which a new one is read as its tree: in a TIFF file the replaced numbers meet no other
 -- named range, and no portion that stays bears the name of a new extended text.
-abbrev pub Apart : Container → Type 0
-Apart Text = Unit {0}
-Apart (Segments regions) = Unit {0}
-Apart (Directories size tiff) = IsApart tiff
+abbrev pub IsApartIn : Container → Type 0
+IsApartIn Text = Unit {0}
+IsApartIn (Segments regions) = Unit {0}
+IsApartIn (Directories size tiff) = IsApart tiff
+
+abbrev pub Apart : Container → Plan → Type 0
+Apart container Same = Unit {0}
+Apart container (InPlace pieces) = Unit {0}
+Apart container (Relocated parts) = IsApartIn container
 
 abbrev pub NoStrayIn : List ℕ → List Region → List FileSpan → Edited → Plan → Type 0
 NoStrayIn file regions joined e Same = Unit {0}

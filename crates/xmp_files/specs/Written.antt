@@ -14,5 +14,5 @@ abbrev pub FileIsWritten : Type 0
 FileIsWritten =
     (need : Need) (old : List ℕ) (kept : Kept) (joined patch : Bool) (e : Edited) (plan : Plan) → IsLoaded need (Some old) (Ok kept) → IsPlanned kept joined patch e (Ok plan)
     → HoldsTree (Some old) e.old → (e.new ≢ e.old → MayPlan e.new e.hints)
-    → (Apart kept.container → NoStray old kept.container kept.portions e plan → HoldsTree (Some (planned_file old plan)) e.new)
+    → (Apart kept.container plan → NoStray old kept.container kept.portions e plan → HoldsTree (Some (planned_file old plan)) e.new)
     × Frame kept plan old (planned_file old plan) × (length (planned_file old plan) ≡ planned_len (length old) plan)

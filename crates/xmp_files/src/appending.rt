@@ -93,13 +93,13 @@ fn new_bytes(
 {
     let mut bytes = Vec::new(alloc);
     relocation.push_numbers(&mut bytes, len as u64)?;
-    let numbers = bytes.len() as u64;
+    let numbers = bytes.as_slice().len() as u64;
     relocation.push_head(&mut bytes)?;
-    let head = bytes.len() as u64;
+    let head = bytes.as_slice().len() as u64;
     relocation.push_entry(&mut bytes, len as u64)?;
     let entry = bytes.as_slice().len() as u64;
     push_packet(&mut bytes, tree, prefixes, form, len)?;
-    let packet = bytes.len() as u64;
+    let packet = bytes.as_slice().len() as u64;
     Ok((
         bytes,
         Ends {
