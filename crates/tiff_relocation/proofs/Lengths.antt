@@ -1,5 +1,5 @@
 -- How long the parts of a relocated file are, and that it ends with its packet.
-use Rattle.std.proofs.Common.{◌≡◌, ◌∙◌, ℕ, ◌+◌, ◌-◌, ◌*◌, ◌≤◌, ◌%◌, Bool, true, false, List, [], ◌∷◌, ◌++◌, length, take, drop, refl, sym, ap, arith, append_assoc, Some, None}
+use Rattle.std.proofs.Common.{◌≡◌, ◌∙◌, ℕ, ◌+◌, ◌-◌, List, ◌++◌, length, drop, refl, sym, ap, arith, append_assoc, Some, None}
 use Rattle.std.specs.declared.option.Option.{Option}
 use Rattle.std.proofs.lemmas.List.{length-append, length-drop, length-take-le, length-replicate, drop_at}
 use Rattle.xmp_base.specs.Device.{put_at}
@@ -11,7 +11,7 @@ use Rattle.tiff_dirs.specs.Layouts.{Widths}
 use Rattle.tiff_dirs.specs.Directories.{span}
 use Rattle.tiff_dirs.specs.Frames.{bytes_in}
 use Rattle.tiff_dirs.specs.Tiff.{Dir, Tiff, first_entry}
-use Rattle.tiff_relocation.specs.Relocation.{changed, changed_by, copy_by, copy_bytes, copy_len, cut_place, even, first_dir, new_copy, new_numbers, number_bytes, numbers_by, packet_entry, packet_place, packet_place_by, pad, pad_len, relocated}
+use Rattle.tiff_relocation.specs.Relocation.{changed, changed_by, copy_by, copy_bytes, cut_place, even, first_dir, new_copy, new_numbers, number_bytes, numbers_by, packet_entry, packet_place, packet_place_by, pad, pad_len, relocated}
 use Rattle.tiff_relocation.specs.Moves.{Lies, LiesIn, relocation_of}
 use Rattle.tiff_relocation.proofs.Copied.{bytes_length}
 

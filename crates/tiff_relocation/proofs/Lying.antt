@@ -1,11 +1,10 @@
 -- The ranges of a relocation lie in the file that is relocated.
-use Rattle.std.proofs.Common.{◌≡◌, ◌∙◌, ℕ, zero, suc, ◌+◌, ◌-◌, ◌*◌, ◌^◌, ◌<◌, ◌≤◌, ◌%◌, Bool, true, false, cond, List, [], ◌∷◌, length, map, refl, sym, ap, subst, arith, Some, None}
+use Rattle.std.proofs.Common.{◌≡◌, ℕ, zero, suc, ◌+◌, ◌*◌, ◌^◌, ◌<◌, ◌≤◌, true, List, [], ◌∷◌, length, refl, sym, ap, subst, arith, Some, None}
 use Rattle.std.specs.Prelude.{◌==◌, nat_lt, not, All}
 use Rattle.std.proofs.lemmas.List.Sums.{prefix_len-le-length}
 use Rattle.std.specs.declared.option.Option.{Option}
 use Rattle.std.proofs.lemmas.List.Elements.{All-nil, All-cons}
 use native.Mathlib.Nat.{mul-le-mul_left}
-use Rattle.xmp_base.specs.declared.file_span.FileSpan.{FileSpan}
 use Rattle.tiff_dirs.specs.declared.layout.Layout.{Layout}
 use Rattle.tiff_dirs.specs.declared.entry.Entry.{Entry}
 use Rattle.tiff_dirs.specs.Layouts.{Widths, layout_of}
@@ -13,12 +12,12 @@ use Rattle.tiff_dirs.specs.Directories.{count_at, end_at, entries_at, entries_fr
 use Rattle.tiff_dirs.specs.Faults.{fault_at, inner_fault, place_fault}
 use Rattle.tiff_dirs.specs.Offsets.{Walks, all_named}
 use Rattle.tiff_dirs.specs.Pictures.{first_of_tag}
-use Rattle.tiff_dirs.specs.Tiff.{Dir, Tiff, dir_at, first_entry, tiff_of}
+use Rattle.tiff_dirs.specs.Tiff.{Dir, Tiff, dir_at, tiff_of}
 use Rattle.tiff_dirs.specs.Model.{IsTiff}
 use Rattle.tiff_dirs.proofs.Appended.{directory_in}
 use Rattle.tiff_dirs.proofs.Framed.{layout_widths, or_first}
 use Rattle.tiff_dirs.proofs.Shown.{find_all}
-use Rattle.tiff_relocation.specs.Relocation.{changed_by, copy_by, entries_before, even, first_dir, packet_place_by}
+use Rattle.tiff_relocation.specs.Relocation.{changed_by, copy_by, entries_before, even, packet_place_by}
 use Rattle.tiff_relocation.specs.Moves.{Lies, LiesIn, relocation_of}
 
 -- entries stand one after another

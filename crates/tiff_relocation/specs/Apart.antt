@@ -1,5 +1,5 @@
 -- When the numbers that a relocation exchanges are numbers alone, and what it makes of the directories then.
-use Rattle.std.specs.Prelude.{◌≡◌, ℕ, ◌+◌, ◌*◌, ◌^◌, ◌≤◌, ◌<◌, ◌⊎◌, List, [], ◌∷◌, ◌++◌, All, drop, flat_map, length, slice_get, take, None, Some}
+use Rattle.std.specs.Prelude.{◌≡◌, ℕ, ◌+◌, ◌^◌, ◌≤◌, ◌<◌, ◌⊎◌, List, ◌∷◌, ◌++◌, All, drop, flat_map, length, slice_get, take, None, Some}
 use Rattle.std.specs.declared.option.Option.{Option}
 use Rattle.xmp_base.specs.declared.file_span.FileSpan.{FileSpan}
 use Rattle.tiff_dirs.specs.declared.layout.Layout.{Layout}
@@ -9,7 +9,7 @@ use Rattle.tiff_dirs.specs.Frames.{Agree}
 use Rattle.tiff_dirs.specs.Model.{IsTiff}
 use Rattle.tiff_dirs.specs.Overlaps.{Meets, apart_of, dir_span, named_in}
 use Rattle.tiff_dirs.specs.Tiff.{Dir, Tiff, first_entry}
-use Rattle.tiff_relocation.specs.Relocation.{changed, changed_by, first_dir, packet_place, relocated}
+use Rattle.tiff_relocation.specs.Relocation.{changed, first_dir, packet_place, relocated}
 
 -- the range that holds them not: the header, where they stand in the first directory, and that directory, where they stand in the header
 abbrev pub not_holding : Layout → Dir → Option Entry → FileSpan

@@ -1,12 +1,11 @@
 -- A relocation as its numbers, and the bytes that it puts into the new file.
-use Rattle.std.specs.Prelude.{◌≡◌, ℕ, ◌+◌, ◌*◌, ◌^◌, ◌≤◌, ◌<◌, ◌&&◌, nat_le, Bool, if◌then◌else◌, List, [], ◌++◌, length, IsTrue, None, Some}
-use Rattle.std.specs.declared.option.Option.{Option}
+use Rattle.std.specs.Prelude.{ℕ, ◌+◌, ◌^◌, ◌≤◌, ◌<◌, ◌&&◌, nat_le, Bool, if◌then◌else◌, List, [], ◌++◌, length}
 use Rattle.std.specs.Option.{is_none}
 use Rattle.xmp_base.specs.declared.file_span.FileSpan.{FileSpan}
 use Rattle.tiff_dirs.specs.Layouts.{Widths}
 use Rattle.tiff_dirs.specs.Tiff.{Tiff, first_entry}
 use Rattle.tiff_relocation.specs.declared.relocation.Relocation.{Relocation}
-use Rattle.tiff_relocation.specs.Relocation.{changed, even, first_dir, new_copy, number_bytes, packet_entry, packet_place, pad}
+use Rattle.tiff_relocation.specs.Relocation.{changed, even, first_dir, new_copy, number_bytes, packet_entry, packet_place}
 
 -- of a file of so many bytes
 abbrev pub relocation_of : ℕ → Tiff → Relocation

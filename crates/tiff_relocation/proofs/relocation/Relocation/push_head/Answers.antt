@@ -1,5 +1,4 @@
-use Rattle.std.proofs.Common.{arith}
-use Rattle.tiff_relocation.proofs.Words.{pow_count, room_left}
+use Rattle.tiff_relocation.proofs.Words.{room_left}
 use Rattle.tiff_relocation.proofs.relocation.Relocation.push_head.Goals as goal
 
 pub push_number-requires-clause-fits : goal.push_number-requires-clause-fits
