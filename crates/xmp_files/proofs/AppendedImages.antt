@@ -1,5 +1,5 @@
 -- A TIFF or BigTIFF file whose packet is put at its end.
-use Rattle.std.proofs.Common.{◌≡◌, ◌∙◌, ℕ, ◌+◌, ◌-◌, ◌<◌, ◌≤◌, List, [], ◌∷◌, ◌++◌, length, take, drop, refl, sym, ap, subst, arith, append_assoc, Some, None, Ok}
+use Rattle.std.proofs.Common.{◌≡◌, ◌∙◌, ℕ, ◌+◌, ◌-◌, ◌≤◌, List, [], ◌∷◌, ◌++◌, length, take, drop, refl, sym, ap, subst, arith, append_assoc, Some, None}
 use Rattle.std.specs.declared.option.Option.{Option}
 use Rattle.std.specs.Option.{is_none}
 use Rattle.std.proofs.lemmas.List.{append-nil, length-append, length-drop, length-take-le, take_all}
@@ -11,12 +11,11 @@ use Rattle.jpeg_extended.specs.FromDesk.{payload_at}
 use Rattle.tiff_dirs.specs.declared.layout.Layout.{Layout}
 use Rattle.tiff_dirs.specs.declared.entry.Entry.{Entry}
 use Rattle.tiff_dirs.specs.Tiff.{Dir, Tiff, first_entry}
-use Rattle.tiff_relocation.specs.declared.relocation.Relocation.{Relocation}
-use Rattle.tiff_relocation.specs.Relocation.{changed, changed_by, copy_by, copy_bytes, first_dir, new_copy, new_numbers, numbers_by, packet_place, packet_place_by, pad, relocated}
+use Rattle.tiff_relocation.specs.Relocation.{changed, changed_by, copy_by, copy_bytes, first_dir, new_copy, new_numbers, numbers_by, packet_place_by, pad, relocated}
 use Rattle.tiff_relocation.specs.Moves.{Lies, relocation_of}
 use Rattle.tiff_relocation.proofs.Lengths.{changed_len}
 use Rattle.xmp_files.specs.NewFiles.{moved_parts}
-use Rattle.xmp_files.specs.Planning.{Part, Old, New, part_bytes, part_len, parts_bytes, parts_len}
+use Rattle.xmp_files.specs.Planning.{Part, Old, New, part_len, parts_bytes, parts_len}
 use Rattle.xmp_files.specs.Plans.{appended_parts}
 
 -- the parts by the relocation are those of the definition

@@ -1,20 +1,16 @@
 -- The packet of a TIFF or BigTIFF file: where it stands, and what is kept of the file when it is exchanged for another one of its length.
-use Rattle.std.proofs.Common.{◌≡◌, ◌⊎◌, ◌∙◌, ℕ, ◌+◌, ◌-◌, ◌*◌, ◌<◌, ◌≤◌, Bool, true, false, cond, List, [], ◌∷◌, ◌++◌, length, take, drop, append_assoc, refl, sym, ap, subst, arith, inl, inr, Ok, Err, Some, None, if◌then◌else◌}
+use Rattle.std.proofs.Common.{◌≡◌, ◌⊎◌, ◌∙◌, ℕ, ◌+◌, ◌-◌, ◌*◌, ◌<◌, ◌≤◌, Bool, true, false, List, [], ◌∷◌, ◌++◌, length, take, drop, append_assoc, refl, sym, ap, subst, arith, inl, inr, Ok, Some, None, if◌then◌else◌}
 use Rattle.std.specs.declared.option.Option.{Option}
-use Rattle.std.specs.declared.result.Result.{Result}
-use Rattle.std.specs.Option.{option_map, ok_or}
-use Rattle.std.specs.Prelude.{nat_eq, nat_le, nat_lt, not, ◌&&◌, ◌||◌, codes, All, Contains}
-use Rattle.std.specs.Cmp.Lexicographic.{pointwise}
-use Rattle.std.proofs.lemmas.Bool.{le-ltb, le-leb, cases_lt}
+use Rattle.std.specs.Option.{option_map}
+use Rattle.std.specs.Prelude.{◌&&◌, All, Contains}
+use Rattle.std.proofs.lemmas.Bool.{cases_lt}
 use Rattle.std.proofs.lemmas.List.{take-append-le, take-take, length-take}
 use Rattle.std.proofs.lemmas.List.Elements.{All-contains}
 use Rattle.xmp_base.specs.Device.{put_at}
 use Rattle.xmp_base.specs.declared.file_span.FileSpan.{FileSpan}
 use Rattle.xmp_base.proofs.Ranges.{put_length, range_put}
-use Rattle.xmp_values.specs.declared.faults.Fault.{Fault}
 use Rattle.xmp_values.specs.declared.hints.Hint.{Hint}
 use Rattle.xmp_tree.specs.Parts.{Parts}
-use Rattle.rdf_forms.specs.Meaning.{Meaning}
 use Rattle.round_trip.specs.Law.{PacketMeans}
 use Rattle.tiff_dirs.specs.declared.layout.Layout.{Layout}
 use Rattle.tiff_dirs.specs.declared.entry.Entry.{Entry}
@@ -28,20 +24,14 @@ use Rattle.tiff_dirs.specs.Standing.{Stands as EntryStands}
 use Rattle.tiff_dirs.proofs.Framed.{layout_widths}
 use Rattle.tiff_dirs.proofs.Standing.{entry_stands}
 use Rattle.tiff_dirs.proofs.InPlace.{packet_in_place}
-use Rattle.xmp_files.specs.declared.kinds.Kind.{Kind}
-use Rattle.xmp_files.specs.declared.kinds.Kind.TheVariants.{Tiff as Classic, BigTiff}
 use Rattle.xmp_files.specs.declared.held.Need.{Need}
 use Rattle.xmp_files.specs.declared.held.Need.TheVariants.{Packet}
-use Rattle.xmp_files.specs.declared.opening.Opened.{Opened}
-use Rattle.xmp_files.specs.Faults.{file_limit, over_limit, not_known, short_offsets, packet_limit, over_packet}
-use Rattle.xmp_files.specs.Kinds.{kind_of, is_jpeg, is_tiff, is_big_tiff, has_long_offsets, begins}
-use Rattle.xmp_files.specs.Stages.{followed, Followed}
+use Rattle.xmp_files.specs.Faults.{file_limit, packet_limit}
 use Rattle.xmp_files.specs.Keeping.{Piece, Kept, image}
 use Rattle.xmp_files.specs.Photographs.{piece_at}
-use Rattle.xmp_files.specs.Images.{HasDirectories, tiff_packet, IsImage}
-use Rattle.xmp_files.specs.Loading.{known, with_offsets, kind_of_file, IsKept, IsLoaded}
-use Rattle.xmp_files.specs.Opening.{IsOpened, HoldsTree}
-use Rattle.xmp_files.proofs.Loads.{known_kind, known_as}
+use Rattle.xmp_files.specs.Images.{tiff_packet, IsImage}
+use Rattle.xmp_files.specs.Loading.{IsLoaded}
+use Rattle.xmp_files.specs.Opening.{HoldsTree}
 use Rattle.xmp_files.proofs.WalkedImages.{IsImageKind, length_piece}
 use Rattle.xmp_files.proofs.HeldImages.{image_kind_same, image_loaded, image_read}
 

@@ -1,10 +1,9 @@
 -- The parts of a relocated TIFF file, as the code makes them.
-use Rattle.std.proofs.Common.{◌≡◌, ◌∙◌, ℕ, ◌+◌, ◌-◌, ◌≤◌, Bool, true, false, if◌then◌else◌, List, [], ◌∷◌, ◌++◌, length, take, drop, refl, sym, ap, subst, arith, append_assoc, Ok, Err}
+use Rattle.std.proofs.Common.{◌≡◌, ◌∙◌, ℕ, ◌+◌, ◌-◌, Bool, true, false, if◌then◌else◌, List, [], ◌∷◌, ◌++◌, length, take, drop, refl, sym, ap, arith, append_assoc, Ok, Err}
 use Rattle.std.specs.Prelude.{All}
 use Rattle.std.specs.declared.result.Result.{Result}
 use Rattle.std.proofs.lemmas.List.{append-nil, length-append, drop_at, take_at}
 use Rattle.std.proofs.lemmas.List.Elements.{All-nil, All-cons}
-use Rattle.xmp_base.specs.declared.file_span.FileSpan.{FileSpan}
 use Rattle.xmp_values.specs.declared.faults.Fault.{Fault}
 use Rattle.xmp_values.specs.declared.stops.FaultStop.{FaultStop}
 use Rattle.xmp_values.specs.declared.stops.FaultStop.TheVariants as faults
@@ -13,7 +12,7 @@ use Rattle.jpeg_extended.specs.FromDesk.{payload_at}
 use Rattle.tiff_dirs.specs.Tiff.{Tiff}
 use Rattle.tiff_relocation.specs.declared.relocation.Relocation.{Relocation}
 use Rattle.tiff_relocation.specs.Relocation.{lacks_room, packet_place, pad, tells}
-use Rattle.tiff_relocation.specs.Moves.{Lies, copy_entry, copy_head, numbers, relocation_of}
+use Rattle.tiff_relocation.specs.Moves.{Lies, copy_entry, copy_head, numbers}
 use Rattle.xmp_files.specs.declared.appending.Ends.{Ends}
 use Rattle.xmp_files.specs.declared.parts.FilePart.{FilePart}
 use Rattle.xmp_files.specs.declared.plans.Exchange.{Exchange}
@@ -21,7 +20,6 @@ use Rattle.xmp_files.specs.NewFiles.{AreNew, PartLies, last_parts, moved_parts, 
 use Rattle.xmp_files.specs.Planning.{Part, Old, New, Plan}
 use Rattle.xmp_files.specs.Plans.{appended_parts, over_entries, over_offsets, put_last, within_out}
 use Rattle.xmp_files.specs.Planneds.{LastAnswer, PartsAnswer}
-use Rattle.xmp_files.proofs.AppendedImages.{moved_as}
 
 -- a part of bytes that stand together
 middle : (x y z items : List ℕ) (i j : ℕ) → items ≡ (x ++ y) ++ z → i ≡ length x → j ≡ length (x ++ y) → payload_at items (span i j) ≡ y
@@ -70,16 +68,31 @@ module _ (r : Relocation) (packet items : List ℕ) (ends : Ends) (new : AreNew 
       let two = length-append (a ++ b) c in
       let three = length-append (a ++ b ++ c) packet in
       let whole = ap length new.is in
-      parts_all r.size (length items) (last_parts r ends)
-      ((omega arith, omega (arith, lies.changed.0, lies.changed.1)),
-      ((omega arith, omega (arith, new.numbers_end, one, two, three, whole)),
-      ((omega (arith, lies.changed.1), omega arith),
-      ((omega (arith, new.numbers_end, new.head_end, one), omega (arith, new.head_end, two, three, whole)),
-      (lies.before,
-      ((omega (arith, new.head_end, new.entry_end, two), omega (arith, new.entry_end, three, whole)),
-      (lies.after,
-      ((omega (arith, new.entry_end, new.packet_end, three, whole), omega (arith, new.packet_end)),
-      tt))))))))
+      parts_all r.size (length items) (last_parts r ends) (
+        (omega arith, omega (arith, lies.changed.0, lies.changed.1)),
+        (
+          (omega arith, omega (arith, new.numbers_end, one, two, three, whole)),
+          (
+            (omega (arith, lies.changed.1), omega arith),
+            (
+              (omega (arith, new.numbers_end, new.head_end, one), omega (arith, new.head_end, two, three, whole)),
+              (
+                lies.before,
+                (
+                  (omega (arith, new.head_end, new.entry_end, two), omega (arith, new.entry_end, three, whole)),
+                  (
+                    lies.after,
+                    (
+                      (omega (arith, new.entry_end, new.packet_end, three, whole), omega (arith, new.packet_end)),
+                      tt,
+                    ),
+                  ),
+                ),
+              ),
+            ),
+          ),
+        ),
+      )
 
 -- Why a packet doesn't come to the end of a file, and what comes there.
 module _ (size : ℕ) (tiff : Tiff) (packet : List ℕ) where

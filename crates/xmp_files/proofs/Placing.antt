@@ -13,8 +13,6 @@ use Rattle.xmp_files.specs.Faults.{packet_limit}
 use Rattle.tiff_dirs.specs.Tiff.{Tiff}
 use Rattle.xmp_files.specs.Loads.{ContainerLies}
 use Rattle.std.specs.declared.option.Option.{Option}
-use Rattle.std.specs.Option.{option_copied}
-use denote.Ref.{Bor}
 use Rattle.std.proofs.lemmas.Bool.{and_parts}
 use Rattle.xmp_values.specs.declared.stops.FaultStop.{FaultStop}
 use Rattle.xmp_values.specs.declared.stops.FaultStop.TheVariants as faults

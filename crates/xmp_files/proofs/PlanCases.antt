@@ -142,7 +142,7 @@ last_of size tiff e plan within h =
 anew_of : (container : Container) (portions : List FileSpan) (e : Edited) (plan : Plan) → least_of e + padding ≤ packet_limit → IsRelocation container portions e (Ok plan)
     → IsAnew container e plan ⊎ (IsAmong container portions e plan ⊎ (IsBoth container portions e plan ⊎ IsLast container e plan))
 anew_of Text portions e plan within h = inl (record { text = refl; within = within; is = let is : Ok plan ≡ Ok (Relocated (New (packet_of e (least_of e + padding)) ∷ [])) = h in cc })
-anew_of (Segments regions) portions e plan within h = elim (among_of regions portions e plan h) [ | inl x ↦ inr (inl x) | inr x ↦ inr (inr (inl x)) ]
+anew_of (Segments regions) portions e plan within h = elim (among_of regions portions e plan h) [ inl x ↦ inr (inl x) | inr x ↦ inr (inr (inl x)) ]
 anew_of (Directories size tiff) portions e plan within h = inr (inr (inr (last_of size tiff e plan within h)))
 
 -- how a changed tree comes to a plan

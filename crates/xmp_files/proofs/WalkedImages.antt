@@ -99,7 +99,7 @@ big_fronts file h =
     ]
 
 big_begins : (file : List ℕ) → is_big_tiff (take 16 file) ≡ true → BeginsTiff file
-big_begins file h = elim (big_fronts file h) [ | inl e ↦ inr (inr (inl e)) | inr e ↦ inr (inr (inr e)) ]
+big_begins file h = elim (big_fronts file h) [ inl e ↦ inr (inr (inl e)) | inr e ↦ inr (inr (inr e)) ]
 
 -- the kind of a file of directories
 abbrev pub IsImageKind : List ℕ → Type 0

@@ -16,7 +16,6 @@ use Rattle.jpeg_regions.specs.Jpeg.{Region, Jpeg as IsJpeg}
 use Rattle.jpeg_extended.specs.Written.{name_text}
 use Rattle.jpeg_relocation.specs.NewSegments.{main_limit}
 use Rattle.jpeg_relocation.specs.Laws.{NoStray as HasNoStray, new_file}
-use Rattle.tiff_dirs.specs.Tiff.{Tiff}
 use Rattle.tiff_dirs.specs.Model.{IsTiff}
 use Rattle.tiff_relocation.specs.Relocation.{packet_place, relocated, tells}
 use Rattle.tiff_relocation.specs.Apart.{IsApart}

@@ -1,6 +1,6 @@
 -- A TIFF or BigTIFF file that is relocated is read as the new tree, and keeps its pictures and all bytes but the exchanged numbers.
-use Rattle.std.proofs.Common.{◌≡◌, ◌⊎◌, ◌∙◌, ℕ, ◌+◌, ◌-◌, ◌*◌, ◌^◌, ◌<◌, ◌≤◌, Bool, true, false, List, [], ◌∷◌, ◌++◌, length, take, drop, refl, sym, ap, subst, arith, inl, inr, Ok, Some, None}
-use Rattle.std.specs.Prelude.{◌&&◌, nat_le, All}
+use Rattle.std.proofs.Common.{◌≡◌, ◌∙◌, ℕ, ◌+◌, ◌-◌, ◌<◌, ◌≤◌, true, false, List, length, take, drop, ap, subst, arith, Some, None}
+use Rattle.std.specs.Prelude.{◌&&◌, nat_le}
 use Rattle.std.specs.declared.option.Option.{Option}
 use Rattle.std.specs.Option.{is_none, option_map}
 use Rattle.std.proofs.lemmas.Bool.{leb-false}
@@ -12,7 +12,6 @@ use Rattle.round_trip.specs.Law.{PacketMeans}
 use Rattle.tiff_dirs.specs.declared.layout.Layout.{Layout}
 use Rattle.tiff_dirs.specs.declared.entry.Entry.{Entry}
 use Rattle.tiff_dirs.specs.Layouts.{Widths, layout_of}
-use Rattle.tiff_dirs.specs.Directories.{span}
 use Rattle.tiff_dirs.specs.Tiff.{Dir, Tiff, first_entry}
 use Rattle.tiff_dirs.specs.Model.{IsTiff}
 use Rattle.tiff_dirs.proofs.Framed.{layout_widths}
@@ -100,6 +99,6 @@ module _ (old : List ℕ) (tiff : Tiff) (walked : IsTiff old tiff) (small : leng
           outside = stay.0;
           pictures = stay.1;
           same = λ apart now is. (
-            let m = new_file_is_walked old tiff packet walked apart may_move in ap (λ (t : Tiff). t.pictures) (tiff_same new now m.now is m.walked) ∙ m.pictures
-          );
+              let m = new_file_is_walked old tiff packet walked apart may_move in ap (λ (t : Tiff). t.pictures) (tiff_same new now m.now is m.walked) ∙ m.pictures
+              );
         }

@@ -232,7 +232,15 @@ fn change_of(
         return Err(FaultStop::Fault(needs_relocation(least, held.payload_len())));
     }
     if let Some(dirs) = held.directories() {
-        return append_packet(alloc, held.size(), dirs, tree, &prefixes, &form, padded as usize);
+        return append_packet(
+            alloc,
+            held.size(),
+            dirs,
+            tree,
+            &prefixes,
+            &form,
+            padded as usize,
+        );
     }
     let Some(regions) = held.regions() else {
         let bytes = packet(alloc, tree, &prefixes, &form, padded as usize)?;

@@ -3,10 +3,9 @@ use Rattle.std.specs.Prelude.{All}
 use Rattle.xmp_write.specs.WrittenPackets.{packet}
 use Rattle.tiff_relocation.specs.declared.relocation.Relocation.{Relocation}
 use Rattle.tiff_relocation.specs.Relocation.{packet_place, tells, lacks_room}
-use Rattle.tiff_relocation.specs.Moves.{Lies, has_no_room, relocation_of}
+use Rattle.tiff_relocation.specs.Moves.{has_no_room}
 use Rattle.xmp_files.specs.declared.parts.FilePart.{FilePart}
 use Rattle.xmp_files.specs.NewFiles.{PartLies, last_parts, moved_parts, parts_at}
-use Rattle.xmp_files.specs.Planning.{Part}
 use Rattle.xmp_files.specs.Plans.{appended_parts}
 use Rattle.xmp_files.proofs.PacketLengths.{length-packet}
 use Rattle.xmp_files.proofs.AppendedImages.{moved_as}

@@ -1,4 +1,4 @@
-use Rattle.std.proofs.Common.{ap, sym, ◌∙◌}
+use Rattle.std.proofs.Common.{ap}
 use Rattle.std.specs.Prelude.{length}
 use Rattle.xmp_write.specs.WrittenPackets.{packet}
 use Rattle.xmp_files.proofs.PacketLengths.{length-packet}

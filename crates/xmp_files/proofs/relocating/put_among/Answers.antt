@@ -1,4 +1,4 @@
-use Rattle.std.proofs.Common.{◌≡◌, sym, subst, ◌∙◌, length, ℕ, List, None}
+use Rattle.std.proofs.Common.{◌≡◌, sym, subst, ◌∙◌, length, List, None}
 use Rattle.std.specs.Prelude.{All}
 use Rattle.jpeg_relocation.specs.Pictures.{moved_of, moved_pictures}
 use Rattle.jpeg_relocation.specs.Relocation.{before, after}
