@@ -39,7 +39,15 @@ fn a_copy_begins_at_an_even_place(rt: HostRuntime) -> Result<(), Fail> {
     file.push(7)?;
     let ran = set(alloc, file.as_slice())?;
     assert!(rt; ran.ended("relocated 43 2462\n", ""));
-    assert!(rt; is_file(ran.out(), b"MM\x00\x2A\x00\x00\x00\x2C\x00\x02", 2462, 42, b"\x07\x00\x00\x03\x01\x11"));
+    assert!(rt;
+        is_file(
+            ran.out(),
+            b"MM\x00\x2A\x00\x00\x00\x2C\x00\x02",
+            2462,
+            42,
+            b"\x07\x00\x00\x03\x01\x11"
+        )
+    );
     assert!(rt; ran.shows(alloc, LINES)?);
     Ok(())
 }
@@ -55,7 +63,15 @@ fn an_entry_tells_the_new_packet(rt: HostRuntime) -> Result<(), Fail> {
     assert!(rt; ran.ended("relocated 2460 7860\n", ""));
     let out = ran.out().unwrap_or(b"");
     assert!(rt; out.get(..72) == file.get(..72) && out.get(80..2460) == file.get(80..2460));
-    assert!(rt; is_file(ran.out(), b"MM", 7860, 72, b"\x00\x00\x15\x18\x00\x00\x09\x9C"));
+    assert!(rt;
+        is_file(
+            ran.out(),
+            b"MM",
+            7860,
+            72,
+            b"\x00\x00\x15\x18\x00\x00\x09\x9C"
+        )
+    );
     assert!(rt; is_file(ran.out(), b"MM", 7860, 2460, b"<?xpacket begin="));
     assert!(rt; ran.shows(alloc, "dc:format text image/jpeg\ndc:source text aaa")?);
     Ok(())
