@@ -42,13 +42,13 @@ put_all-step cs ms new i o h is made =
     ap (put_all (drop (i + 1) properties) cs) (made ∙ ap (λ x. put (property_at i) x ms) (sym is))
     ∙ ap (λ ps. put_all ps cs ms) (sym (drop_more properties i Description (omega (arith, twelve))))
 
-counted : ℕ → ℕ → List ℕ
+abbrev counted : ℕ → ℕ → List ℕ
 counted from zero = []
 counted from (suc n) = from ∷ counted (from + 1) n
 
 counted-at : (from n i d : ℕ) → i < n → get_or (counted from n) i d ≡ from + i
 counted-at from zero i d h = absurd (omega arith)
-counted-at from (suc n) zero d h = omega arith
+counted-at from (suc n) zero d h = let e : from ≡ from + 0 = omega arith in e
 counted-at from (suc n) (suc i) d h =
     let e : (from + 1) + i ≡ from + suc i = omega arith in
     counted-at (from + 1) n i d (omega arith) ∙ e
@@ -60,7 +60,8 @@ in_order = refl
 -- the properties stand in the order of their numbers
 pub number_at : (i : ℕ) → i < 12 → number_of (property_at i) ≡ i
 number_at i h =
-    sym (get_or-map number_of properties i Description) ∙ ap (λ ns. get_or ns i (number_of Description)) in_order ∙ counted-at 0 12 i (number_of Description) h
+    let same : 0 + i ≡ i = omega arith in
+    sym (get_or-map number_of properties i Description 0 (omega (arith, twelve))) ∙ ap (λ ns. get_or ns i 0) in_order ∙ counted-at 0 12 i 0 h ∙ same
 
 pub fields-length : (fs : List Field) → length (fields_of fs) ≡ 12
 unfolding fields_of

@@ -1,4 +1,4 @@
-use Rattle.std.proofs.Common.{◌≡◌, ◌∙◌, ◌++◌, ◌∷◌, [], ℕ, Bool, ap, sym, subst, take, drop, length, List, Option, Some, arith}
+use Rattle.std.proofs.Common.{◌≡◌, ◌∙◌, ◌++◌, ◌∷◌, [], ℕ, Bool, ap, sym, subst, take, length, List, Option, Some, arith}
 use Rattle.std.specs.Prelude.{All, map, slice_get}
 use Rattle.std.specs.List.{remove}
 use Rattle.std.proofs.lemmas.List.{length-drop}
@@ -15,8 +15,8 @@ use Rattle.mwg_rules.proofs.Chars.{choices_for-chars}
 use Rattle.mwg_rules.proofs.Steps.{fields-length, first_left, map_one_more, number_at, property_at, rest_left, take_whole}
 use Rattle.mwg_rules.proofs.choices.prefer.Goals as goal
 
-pub remove-requires : goal.remove-requires
-remove-requires c =
+pub remove-told-requires : goal.remove-told-requires
+remove-told-requires c =
     let i = c.loop-property.property-index in
     let fs = fields_of c.args.s.now.iptc in
     let left = ap length c.loop-property.invariant.left in
@@ -41,11 +41,11 @@ loop-property-preserved c =
     c.if_chars.ensures ∙ ap (option_and_then if_chars) (c.in_ok-exif.ensures ∙ c.value.ensures ∙ ap (λ (n : ℕ). option_flatten (slice_get exif n)) c.number.ensures) in
     let told : slice_get iptc (number_of p) ≡ Some c.remove-told.result =
     ap (slice_get iptc) (number_at i within) ∙ sym (first_left iptc i) ∙ ap (λ (l : List (Option Texts)). slice_get l 0) (sym inv.left) ∙ c.remove-told.ensures.item in
-    let last : c.if_chars-2.result ≡ value_at iptc (number_of p) =
-    c.if_chars-2.ensures ∙ ap (λ (o : Option (Option Texts)). option_and_then if_chars (option_flatten o)) (sym told) in
+    let last : c.if_chars-in-loop-property.result ≡ value_at iptc (number_of p) =
+    c.if_chars-in-loop-property.ensures ∙ ap (λ (o : Option (Option Texts)). option_and_then if_chars (option_flatten o)) (sym told) in
     let choice : c.preferred-choice.result ≡ f p =
-    c.preferred-choice.ensures ∙ ap (λ (o : Option Texts). preferred o changed c.has_value-xmp.result c.if_chars-2.result) first
-    ∙ ap (λ (b : Bool). preferred (value_at exif (number_of p)) changed b c.if_chars-2.result) xmp
+    c.preferred-choice.ensures ∙ ap (λ (o : Option Texts). preferred o changed c.has_value-xmp.result c.if_chars-in-loop-property.result) first
+    ∙ ap (λ (b : Bool). preferred (value_at exif (number_of p)) changed b c.if_chars-in-loop-property.result) xmp
     ∙ ap (λ (o : Option Texts). preferred (value_at exif (number_of p)) changed (has_value (value_named (name_of p) props)) o) last in
     record {
       chosen = c.in_ok-push.ensures.ok ∙ ap (λ (l : List (Option Choice)). l ++ c.preferred-choice.result ∷ []) inv.chosen
