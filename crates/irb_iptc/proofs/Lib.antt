@@ -2,6 +2,7 @@ pub mod Blocks
 pub mod Counting
 pub mod Digests
 pub mod Exchanged
+pub mod Hashed
 pub mod Heads
 pub mod Listed
 pub mod Marked

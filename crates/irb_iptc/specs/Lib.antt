@@ -5,4 +5,5 @@ pub mod Datasets
 pub mod Entries
 pub mod Digest
 pub mod Fields
+pub mod Hashes
 pub mod Scanning

@@ -1,15 +1,15 @@
 //! The values that IPTC gives properties of XMP.
-ghost use Rattle.std.specs.Prelude.{◌≡◌, ◌<◌, ◌++◌, [], length, slice_get, IfOk, OnOk};
+ghost use Rattle.std.specs.Prelude.{◌≡◌, ◌<◌, ◌++◌, length, slice_get, IfOk, OnOk};
 ghost use Rattle.std.specs.Option.{option_and_then, option_copied, option_to_list};
 ghost use Rattle.field_values.specs.FieldTexts.{field_text};
-ghost use Rattle.xmp_values.specs.Texts.{texts_of as texts_in};
-ghost use Rattle.irb_iptc.specs.Fields.{bytes_for, date_of, distinct_after, fields_of, first_of, one, some_of, text_of, texts_of};
+ghost use Rattle.irb_iptc.specs.Fields.{bytes_for, date_of, fields_of, first_of, one, some_of, text_of, texts_of};
 
 use crate::datasets::Datasets;
 use crate::dates::date_and_time;
+use crate::repeats::distinct;
 use field_values::field_text;
 use std::alloc::Global;
-use xmp_values::{Bytes, Memory, Sequence, TextSet};
+use xmp_values::{Bytes, Memory, Sequence};
 
 /// The record of what a picture shows, the application record.
 const RECORD: u8 = 2;
@@ -29,8 +29,7 @@ pub fn iptc_fields(
     let description = one(alloc, text_of(alloc, datasets, 120)?)?;
     let rights = one(alloc, text_of(alloc, datasets, 116)?)?;
     let creators = some_of(texts_of(alloc, datasets, 80)?);
-    let keywords = texts_of(alloc, datasets, 25)?;
-    let subjects = some_of(distinct(alloc, keywords.as_slice())?);
+    let subjects = some_of(distinct(alloc, texts_of(alloc, datasets, 25)?)?);
     let created = one(alloc, date_of(alloc, datasets, 55, 60)?)?;
     let digitized = one(alloc, date_of(alloc, datasets, 62, 63)?)?;
     let city = one(alloc, text_of(alloc, datasets, 90)?)?;
@@ -139,28 +138,6 @@ fn date_of(alloc: Global, datasets: &Datasets, date: u8, time: u8) -> Result<Opt
         Some(bytes) => date_and_time(alloc, bytes, first_of(datasets, time)),
         None => Ok(None),
     }
-}
-
-/// Copies of the texts that differ, where each is first seen.
-fn distinct(alloc: Global, texts: &[Bytes]) -> Result<Sequence<Bytes>, Memory>
-    ensures { IfOk result (λ kept. kept ≡ distinct_after [] texts.now) }
-{
-    let mut seen = TextSet::new(alloc);
-    for text in texts {
-        seen.insert(text.as_slice())?;
-    }
-    copies(alloc, seen.as_slice())
-}
-
-/// Copies of texts.
-fn copies(alloc: Global, texts: &[&[u8]]) -> Result<Sequence<Bytes>, Memory>
-    ensures { IfOk result (λ copies. copies ≡ texts_in texts.now) }
-{
-    let mut copies = Sequence::new(alloc);
-    for text in texts {
-        copies.push(Bytes::from_slice(alloc, text)?)?;
-    }
-    Ok(copies)
 }
 
 /// The texts, if there are any.

@@ -19,6 +19,7 @@ mod head;
 mod laws;
 mod list;
 mod reading;
+mod repeats;
 #[cfg(test)]
 mod scan_tests;
 mod scanning;

@@ -1,7 +1,7 @@
 //! The choice among the sources, for each property.
-ghost use Rattle.std.specs.Prelude.{◌≡◌, IfOk, slice_get};
+ghost use Rattle.std.specs.Prelude.{◌≡◌, IfOk};
 ghost use Rattle.std.specs.List.{list_all};
-ghost use Rattle.std.specs.Option.{option_and_then, option_copied, option_flatten};
+ghost use Rattle.std.specs.Option.{option_and_then, option_copied};
 ghost use Rattle.xmp_values.specs.Characters.{is_blank};
 ghost use Rattle.irb_iptc.specs.Fields.{fields_of};
 ghost use Rattle.xmp_tree.specs.declared.nested.Shape.{out-Shape};
@@ -86,18 +86,14 @@ pub fn prefer(alloc: Global, s: &Sources, t: &Tree<'_>) -> Result<Choices, Memor
     ensures { IfOk result (λ c. c ≡ choices_for s.now.exif (differs s.now.stored s.now.block) (fields_of s.now.iptc) t.now.props) }
 {
     let changed = differs(&s.stored, &s.block);
-    let iptc = iptc_fields(alloc, &s.iptc)?;
+    let mut iptc = iptc_fields(alloc, &s.iptc)?;
     let mut chosen = Sequence::new(alloc);
     for property in PROPERTIES {
-        let i = property.number();
+        let exif = copied(alloc, s.exif.value(property.number()))?;
         let xmp = has_value(value_named(t.props.as_slice(), &property.name()));
-        let choice = preferred(
-            alloc,
-            if_chars(s.exif.value(i)),
-            changed,
-            xmp,
-            if_chars(value_in(iptc.as_slice(), i)),
-        )?;
+        // IPTC's values are in the order of `PROPERTIES`; they are moved, since one may be long.
+        let told = iptc.remove(0);
+        let choice = preferred(if_chars(exif), changed, xmp, if_chars(told));
         chosen.push(choice)?;
     }
     Ok(Choices { alloc, chosen })
@@ -141,23 +137,19 @@ fn is_blank(text: &[u8]) -> bool
     text.iter().all(|byte| is_blank_byte(*byte))
 }
 
-/// The value of a property in a list of them.
-fn value_in(values: &[Option<Sequence<Bytes>>], i: usize) -> Option<&[Bytes]>
-    ensures { option_copied result ≡ option_flatten (slice_get values.now i) }
-{
-    match values.get(i) {
-        Some(Some(texts)) => Some(texts.as_slice()),
-        _ => None,
-    }
-}
-
 /// A value, if a tree can have it.
-fn if_chars(value: Option<&[Bytes]>) -> Option<&[Bytes]>
-    ensures { option_copied result ≡ option_and_then if_chars (option_copied value.entry) }
+fn if_chars(value: Option<Sequence<Bytes>>) -> Option<Sequence<Bytes>>
+    ensures { result ≡ option_and_then if_chars value }
 {
     match value {
-        Some(texts) if are_chars(texts) => Some(texts),
-        _ => None,
+        Some(texts) => {
+            if are_chars(texts.as_slice()) {
+                Some(texts)
+            } else {
+                None
+            }
+        }
+        None => None,
     }
 }
 
@@ -178,21 +170,35 @@ fn is_chars(bytes: &[u8]) -> bool
 /// The first row that holds.
 #[tactic(auto, unfolding(crate::specs::Sources::preferred))]
 fn preferred(
-    alloc: Global,
-    exif: Option<&[Bytes]>,
+    exif: Option<Sequence<Bytes>>,
     changed: bool,
     xmp: bool,
-    iptc: Option<&[Bytes]>,
-) -> Result<Option<Choice>, Memory>
-    ensures { IfOk result (λ c. c ≡ preferred (option_copied exif.entry) changed xmp (option_copied iptc.entry)) }
+    iptc: Option<Sequence<Bytes>>,
+) -> Option<Choice>
+    ensures { result ≡ preferred exif changed xmp iptc }
 {
     if let Some(texts) = exif {
-        return Ok(Some(Choice::Exif(copy_texts(alloc, texts)?)));
+        return Some(Choice::Exif(texts));
     }
     match iptc {
-        Some(texts) if changed => Ok(Some(Choice::Iptc(copy_texts(alloc, texts)?))),
-        _ if xmp => Ok(Some(Choice::Xmp)),
-        Some(texts) => Ok(Some(Choice::Iptc(copy_texts(alloc, texts)?))),
+        Some(texts) => {
+            if xmp && !changed {
+                Some(Choice::Xmp)
+            } else {
+                Some(Choice::Iptc(texts))
+            }
+        }
+        None if xmp => Some(Choice::Xmp),
+        None => None,
+    }
+}
+
+/// A copy of a value.
+fn copied(alloc: Global, value: Option<&[Bytes]>) -> Result<Option<Sequence<Bytes>>, Memory>
+    ensures { IfOk result (λ copy. copy ≡ option_copied value.entry) }
+{
+    match value {
+        Some(texts) => Ok(Some(copy_texts(alloc, texts)?)),
         None => Ok(None),
     }
 }

@@ -1,6 +1,6 @@
 use Rattle.std.proofs.Common.{◌≡◌, [], drop}
 use Rattle.irb_iptc.specs.Fields.{distinct_after}
-use Rattle.irb_iptc.proofs.fields.distinct.Given as goal
+use Rattle.irb_iptc.proofs.repeats.first_seen.Given as goal
 
 -- the rest after what has been seen gives what the whole gives
 abbrev pub invariant-loop-text : goal.invariant-loop-text
