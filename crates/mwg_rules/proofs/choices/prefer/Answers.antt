@@ -49,7 +49,7 @@ loop-property-preserved c =
     ∙ ap (λ (o : Option Texts). preferred (value_at exif (number_of p)) changed (has_value (value_named (name_of p) props)) o) last in
     record {
       chosen = c.in_ok-push.ensures.ok ∙ ap (λ (l : List (Option Choice)). l ++ c.preferred-choice.result ∷ []) inv.chosen
-      ∙ ap (λ (o : Option Choice). map f (take i properties) ++ o ∷ []) choice ∙ sym (map_one_more f i within);
+          ∙ ap (λ (o : Option Choice). map f (take i properties) ++ o ∷ []) choice ∙ sym (map_one_more f i within);
       left = c.remove-told.ensures.rest ∙ ap (λ (l : List (Option Texts)). remove l 0) inv.left ∙ rest_left iptc i;
     }
 
