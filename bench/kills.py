@@ -41,10 +41,10 @@ def sidecar(properties: int) -> bytes:
     return (HEADER + text + " " * 4096 + TRAILER).encode()
 
 
-def photograph(packet: bytes) -> bytes:
-    """A JPEG file with this packet, and a scan of 50 MB."""
+def photograph(packet: bytes, size: int = 50_000_000) -> bytes:
+    """A JPEG file with this packet, and a scan of so many bytes."""
     payload = SIGNATURE + packet
-    return b"\xff\xd8\xff\xe1" + (len(payload) + 2).to_bytes(2, "big") + payload + b"\xff\xda" + bytes(50_000_000) + b"\xff\xd9"
+    return b"\xff\xd8\xff\xe1" + (len(payload) + 2).to_bytes(2, "big") + payload + b"\xff\xda" + bytes(size) + b"\xff\xd9"
 
 
 def image(packet: bytes, wide: bool) -> bytes:
