@@ -13,6 +13,7 @@ mod edit;
 mod fields;
 mod given;
 mod judging;
+mod languages;
 mod laws;
 mod line;
 mod places;

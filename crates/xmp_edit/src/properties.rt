@@ -12,7 +12,7 @@ ghost use Rattle.xmp_edit.specs.Edits.{ok_map, at_place, on_value, stepped, in_m
 ghost use Rattle.xmp_edit.specs.Properties.{whole, wholes};
 
 use crate::action::{Action, makes};
-use crate::changing::{changed, simple};
+use crate::changing::{changed, same_kind, simple};
 use crate::fields::Fields;
 use crate::places::{at_place, in_members, is_end};
 use crate::queues::ItemQueue;
@@ -313,6 +313,13 @@ fn in_array<'p>(
         Action::Insert(at, text) => {
             let items = inserted(alloc, *at, text, items)?;
             Ok(Some(Held::Queued(kind, items, quals)))
+        }
+        Action::SetLang(tag, text) => {
+            if !same_kind(kind, Kind::Alt) {
+                return Err(RuleStop::Fault(Rule::WrongShape));
+            }
+            let items = items.said(alloc, tag, text)?;
+            Ok(Some(Held::Queued(Kind::Alt, items, quals)))
         }
         _ => {
             let shape = Shape::Array(kind, items.into_items());
