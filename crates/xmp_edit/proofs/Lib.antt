@@ -11,4 +11,3 @@ pub mod NewHints
 pub mod Utf8Scripts
 pub mod SlotLemmas
 pub mod Apart
-pub mod Structures

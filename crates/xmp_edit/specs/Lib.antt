@@ -9,4 +9,5 @@ pub mod Judging
 pub mod ScriptOf
 pub mod Slots
 pub mod Codes
+pub mod HeldMembers
 pub mod Properties

@@ -47,7 +47,8 @@ fn taken_out<'p>(place: Option<Value<'p>>) -> Result<Option<Value<'p>>, RuleStop
     }
 }
 
-fn same_kind(a: Kind, b: Kind) -> bool
+/// Whether two kinds are one.
+pub fn same_kind(a: Kind, b: Kind) -> bool
     ensures { result ≡ same_kind a b }
 {
     match (a, b) {
@@ -249,7 +250,7 @@ fn item_said<'p>(
 }
 
 /// Items whose one of a language becomes a text, or with one more.
-fn said<'p>(
+pub fn said<'p>(
     alloc: Global,
     tag: &Text<'_>,
     text: &Text<'_>,
