@@ -26,7 +26,7 @@ use Rattle.xmp_tree.specs.Items.{item_put}
 use Rattle.xmp_tree.specs.Places.{same_name, value_named, text_of, lang_in, lang_of, is_tag, tag_place}
 use Rattle.xmp_tree.proofs.Made.{name-member, value-member}
 use Rattle.xmp_tree.proofs.PlaceLemmas.{same_name_is}
-use Rattle.xmp_edit.specs.Actions.{set_leaf, leaf_put, spoken, said}
+use Rattle.xmp_edit.specs.Actions.{set_leaf, leaf_put, spoken, is_default, said}
 use Rattle.xmp_edit.specs.Edits.{ok_map, item_at}
 use Rattle.xmp_edit.specs.Languages.{lower, is_lower, lower_place, lower_cmp, HasLanguages, LanguagesMore, AddsLanguage}
 
@@ -228,13 +228,20 @@ module _ (vs : List Value) (old : BTreeMap (Vec ℕ Global) ℕ) (has : HasLangu
   said_at text i new (Some v) here gave = said_item text i v new here (set_leaf (Simple text) (Some v)) refl gave
   said_at text i new None here gave = absurd (err_items _ new gave)
 
-  pub languages_said_there : (tag text : List ℕ) (i : ℕ) (new : List Value) → said tag text vs (Some i) ≡ Ok new → HasLanguages old new
-  languages_said_there tag text i new gave = said_at text i new (slice_get vs i) refl gave
+  pub languages_said_at : (text : List ℕ) (i : ℕ) (new : List Value) → item_at (set_leaf (Simple text)) vs i (slice_get vs i) ≡ Ok new → HasLanguages old new
+  languages_said_at text i new gave = said_at text i new (slice_get vs i) refl gave
 
   -- a new item of `setlang`, and its language
   pub languages_said_new : (key : Vec ℕ Global) (tag text : List ℕ) (at : ℕ) (new : BTreeMap (Vec ℕ Global) ℕ) →
       key.items ≡ lower tag → at ≡ length vs → LanguagesMore key at old new → HasLanguages new (vs ++ spoken tag text ∷ [])
   languages_said_new key tag text at new keyed last more = languages_more key (spoken tag text) tag at new (lang-spoken tag text) keyed last more
+
+  -- the same, of the items that it gives
+  pub languages_said_last : (key : Vec ℕ Global) (tag text : List ℕ) (at : ℕ) (new : BTreeMap (Vec ℕ Global) ℕ) (more : List Value) →
+      key.items ≡ lower tag → at ≡ length vs → LanguagesMore key at old new → is_default tag ≡ false → said tag text vs None ≡ Ok more → HasLanguages new more
+  languages_said_last key tag text at new more keyed last has_more other gave =
+      let pushed : vs ++ spoken tag text ∷ [] ≡ more = ap (λ b. cond b (spoken tag text ∷ vs) (vs ++ spoken tag text ∷ [])) (sym other) ∙ ap (items_of vs) gave in
+      subst (HasLanguages new) pushed (languages_said_new key tag text at new keyed last has_more)
 
 -- an empty map has the languages of no items
 pub languages_none : (m : BTreeMap (Vec ℕ Global) ℕ) → m.entries ≡ [] → HasLanguages m []
@@ -246,21 +253,3 @@ no_key (Some k) e = absurd (different_bools e)
 
 pub absent_key : (o : Option ℕ) (there : Bool) → there ≡ is_some o → there ≡ false → o ≡ None
 absent_key o there e f = no_key o (sym e ∙ f)
-
--- a loop over items: the map of the first ones, with one more
-module _ (vs : List Value) (i : ℕ) (v : Value) (here : slice_get vs i ≡ Some v) (old new : BTreeMap (Vec ℕ Global) ℕ) where
-  pub languages_next : HasLanguages old (take i vs) → AddsLanguage (lang_of v) i old new → HasLanguages new (take (i + 1) vs)
-  languages_next has added =
-      let lt = slice_get_within vs i v here in
-      let one : take (i + 1) vs ≡ take i vs ++ v ∷ [] = take_more vs i v lt ∙ ap (λ w. take i vs ++ w ∷ []) (get_or_from_slice_get vs i v v here) in
-      subst (HasLanguages new) (sym one) (languages_added (take i vs) old has v i new (sym (length-take-le i vs (omega arith))) added)
-
-pub languages_whole : (vs : List Value) (i : ℕ) (places : BTreeMap (Vec ℕ Global) ℕ) → length vs ≤ i → HasLanguages places (take i vs) → HasLanguages places vs
-languages_whole vs i places past has = subst (HasLanguages places) (take_all i vs past) has
-
-pub languages_start : (vs : List Value) (m : BTreeMap (Vec ℕ Global) ℕ) → m.entries ≡ [] → HasLanguages m (take 0 vs)
-languages_start vs m none = subst (HasLanguages m) (sym (take-zero vs)) (languages_none m none)
-  where
-    take-zero : (xs : List Value) → take 0 xs ≡ []
-    take-zero [] = refl
-    take-zero (x ∷ xs) = refl

@@ -44,10 +44,6 @@ LanguagesMore key at old new = (q : Vec ℕ Global) → get lower_cmp new q ≡ 
 abbrev pub AddsLanguage : Option (List ℕ) → ℕ → BTreeMap (Vec ℕ Global) ℕ → BTreeMap (Vec ℕ Global) ℕ → Type 0
 AddsLanguage lang at old new = (q : Vec ℕ Global) → get lower_cmp new q ≡ option_or (get lower_cmp old q) (if is_lower q.items lang then Some at else None)
 
--- a map with the language of the item at a place, if it has one, unless it is there
-abbrev pub LanguageOf : Option (List ℕ) → ℕ → BTreeMap (Vec ℕ Global) ℕ → BTreeMap (Vec ℕ Global) ℕ → Type 0
-LanguageOf lang at old new = (q : Vec ℕ Global) → get lower_cmp new q ≡ option_or (get lower_cmp old q) (if is_lower q.items lang then Some at else None)
-
 -- what is known is so
 abbrev pub Knows : Languages → List Value → Type 0
 Knows (Unknown count) vs = ⊤

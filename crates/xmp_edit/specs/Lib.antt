@@ -10,4 +10,5 @@ pub mod ScriptOf
 pub mod Slots
 pub mod Languages
 pub mod Codes
+pub mod HeldMembers
 pub mod Properties

@@ -47,7 +47,7 @@ fn taken_out<'p>(place: Option<Value<'p>>) -> Result<Option<Value<'p>>, RuleStop
     }
 }
 
-/// Whether the kinds are one.
+/// Whether two kinds are one.
 pub fn same_kind(a: Kind, b: Kind) -> bool
     ensures { result ≡ same_kind a b }
 {

@@ -1,10 +1,12 @@
 //! The items of an array beside a map that leads from a language to its first item, so that `setlang`
 //! looks at no other.
-ghost use Rattle.std.specs.Prelude.{◌≡◌, IfOk};
+ghost use Rattle.std.specs.Prelude.{◌≡◌, None, slice_get, IfOk};
 ghost use Rattle.xmp_values.specs.Stops.{Gives, rule_of};
 ghost use Rattle.xmp_tree.specs.Places.{lang_of, tag_place};
-ghost use Rattle.xmp_edit.specs.Actions.{said};
-ghost use Rattle.xmp_edit.specs.Languages.{lower, HasLanguages, Knows, LanguagesMore, LanguageOf, spoken_items};
+ghost use Rattle.xmp_tree.specs.declared.nested.Shape.{Simple};
+ghost use Rattle.xmp_edit.specs.Actions.{set_leaf, said};
+ghost use Rattle.xmp_edit.specs.Edits.{item_at};
+ghost use Rattle.xmp_edit.specs.Languages.{lower, HasLanguages, Knows, LanguagesMore, AddsLanguage, spoken_items};
 
 use crate::changing::{is_default, item_said, one_more_said};
 use std::alloc::Global;
@@ -51,13 +53,8 @@ fn placed(places: Places, key: Vec<u8>, at: usize) -> Result<Places, Memory>
 }
 
 /// The places with the language of one more item.
-fn listed(
-    alloc: Global,
-    places: Places,
-    item: &Value<'_>,
-    at: usize,
-) -> Result<Places, Memory>
-    ensures { IfOk result (λ new. LanguageOf (lang_of item.now) at places new) }
+fn listed(alloc: Global, places: Places, item: &Value<'_>, at: usize) -> Result<Places, Memory>
+    ensures { IfOk result (λ new. AddsLanguage (lang_of item.now) at places new) }
 {
     match lang_of(item) {
         Some(lang) => placed(places, key_of(alloc, lang)?, at),
@@ -98,6 +95,22 @@ pub fn known<'p>(
     }
 }
 
+/// Items whose one at a place becomes a text. It keeps its language.
+fn replaced<'p>(
+    alloc: Global,
+    text: &Text<'_>,
+    spoken: Spoken<'p>,
+    at: usize,
+) -> Result<Spoken<'p>, RuleStop>
+    requires known { HasLanguages spoken.places spoken.items }
+    ensures gives { Gives rule_of (spoken_items result) (item_at (set_leaf (Simple text.now)) spoken.entry.items at (slice_get spoken.entry.items at)) }
+    ensures known { IfOk result (λ s. HasLanguages s.places s.items) }
+{
+    let Spoken { items, places } = spoken;
+    let items = item_said(alloc, text, items, at)?;
+    Ok(Spoken { items, places })
+}
+
 /// Items with one more, whose language is new and has this key.
 fn one_more<'p>(
     alloc: Global,
@@ -135,11 +148,7 @@ pub fn said<'p>(
 {
     let key = key_of(alloc, tag.bytes())?;
     match spoken.places.get(&key).copied() {
-        Some(at) => {
-            let Spoken { items, places } = spoken;
-            let items = item_said(alloc, text, items, at)?;
-            Ok(Spoken { items, places })
-        }
+        Some(at) => replaced(alloc, text, spoken, at),
         None => one_more(alloc, tag, text, spoken, key),
     }
 }

@@ -12,6 +12,8 @@ mod drafts;
 mod edit;
 mod fields;
 mod given;
+mod held;
+mod held_members;
 mod judging;
 mod languages;
 mod laws;

@@ -165,13 +165,7 @@ fn few(languages: &Languages) -> Option<u8>
     ensures { IfSome result (λ count. count < 16) }
 {
     match languages {
-        Languages::Unknown(count) => {
-            if *count < FEW {
-                Some(*count)
-            } else {
-                None
-            }
-        }
+        Languages::Unknown(count) => { if *count < FEW { Some(*count) } else { None } }
         Languages::Known(_) => None,
     }
 }
