@@ -1,6 +1,6 @@
 -- The place of a language is that of its lower case; what a map has of it stays so as items are added and replaced.
-use Rattle.std.proofs.Common.{◌≡◌, ◌∙◌, ◌+◌, ◌≤◌, ◌<◌, ℕ, suc, length, get_or, Bool, true, false, cond, List, [], ◌∷◌, ◌++◌, Option, Some, None, refl, sym, ap, subst, arith}
-use Rattle.std.specs.Prelude.{slice_get, slice_set, option_map, take, is_some, position, nat_lt, Vec, Result, Ok, Err}
+use Rattle.std.proofs.Common.{◌≡◌, ◌∙◌, ℕ, suc, length, Bool, true, false, cond, List, [], ◌∷◌, ◌++◌, Option, Some, None, refl, sym, ap, subst, arith}
+use Rattle.std.specs.Prelude.{slice_get, slice_set, option_map, is_some, position, nat_lt, Vec, Result, Ok, Err}
 use Rattle.std.specs.Option.{option_or}
 use Rattle.std.specs.List.{position_or_len}
 use Rattle.std.specs.Str.{bytes_eq, str_eq_ignore_ascii_case}
@@ -10,10 +10,10 @@ use Rattle.std.specs.Ordering.{is_eq, nat_cmp}
 use Rattle.std.specs.Cmp.Lexicographic.{slice_cmp, bytes_decides}
 use Rattle.std.specs.BTreeMap.{BTreeMap, UpdatesBy, get, is_at}
 use Rattle.std.proofs.lemmas.Bool.Decides.{nat_tests}
-use Rattle.std.proofs.lemmas.List.{length-set, length-take-le, take_more, take_all}
+use Rattle.std.proofs.lemmas.List.{length-set}
 use Rattle.std.proofs.lemmas.List.Folds.{position_or_len-set}
 use Rattle.std.proofs.lemmas.Map.Text.{is_eq-slice_cmp}
-use Rattle.std.proofs.lemmas.Option.{none-some, same_Some, get_or_from_slice_get, slice_get_within}
+use Rattle.std.proofs.lemmas.Option.{none-some, get_or_from_slice_get}
 use Rattle.xmp_values.specs.declared.rules.Rule.{Rule}
 use Rattle.xmp_tree.specs.declared.nested.Value.{Value, out-Value, out-roll-Value}
 use Rattle.xmp_tree.specs.declared.nested.Member.{Member}
@@ -23,7 +23,7 @@ use denote.Hole.Carrier.{out}
 use Rattle.xmp_tree.specs.Parts.{member, value, simple}
 use Rattle.xmp_tree.specs.Wf.{name_of, value_of, lang_name}
 use Rattle.xmp_tree.specs.Items.{item_put}
-use Rattle.xmp_tree.specs.Places.{same_name, value_named, text_of, lang_in, lang_of, is_tag, tag_place}
+use Rattle.xmp_tree.specs.Places.{same_name, text_of, lang_in, lang_of, is_tag, tag_place}
 use Rattle.xmp_tree.proofs.Made.{name-member, value-member}
 use Rattle.xmp_tree.proofs.PlaceLemmas.{same_name_is}
 use Rattle.xmp_edit.specs.Actions.{set_leaf, leaf_put, spoken, is_default, said}
