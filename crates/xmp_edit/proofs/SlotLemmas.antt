@@ -129,6 +129,14 @@ missing_present n [] none = refl
 missing_present n (None ∷ ss) none = missing_present n ss (later_none (slot_of n ss) none)
 missing_present n (Some x ∷ ss) none = missing_member n x ss (missing_present n ss) (same_name (name_of x) n) refl none
 
+-- a name that has a slot is that of a member, and no other is
+pub slot_there : (n : Name) (ss : List (Option Member)) → is_some (slot_of n ss) ≡ is_some (place_of n (present ss))
+slot_there n ss = by (slot_of n ss) refl
+  where
+    by : (o : Option ℕ) → slot_of n ss ≡ o → is_some (slot_of n ss) ≡ is_some (place_of n (present ss))
+    by (Some i) at = ap (λ (o : Option ℕ). is_some o) at ∙ sym (ap (λ (o : Option ℕ). is_some o) (found_at n ss i at).place)
+    by None none = ap (λ (o : Option ℕ). is_some o) none ∙ sym (ap (λ (o : Option ℕ). is_some o) (missing_present n ss none))
+
 -- a change in a slot is one at the place of its name
 module _ (change : Change) (ss : List (Option Member)) (i : ℕ) (n : Name) (f : FoundAt n ss i) where
   put : (r : Result (Option Value) Rule) → ok_map (member_put (present ss) f.j f.m) r ≡ ok_map present (ok_map (slot_put ss i f.m) r)

@@ -8,5 +8,7 @@ pub mod Law
 pub mod Judging
 pub mod ScriptOf
 pub mod Slots
+pub mod Languages
 pub mod Codes
+pub mod HeldMembers
 pub mod Properties

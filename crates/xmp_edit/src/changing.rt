@@ -47,7 +47,8 @@ fn taken_out<'p>(place: Option<Value<'p>>) -> Result<Option<Value<'p>>, RuleStop
     }
 }
 
-fn same_kind(a: Kind, b: Kind) -> bool
+/// Whether two kinds are one.
+pub fn same_kind(a: Kind, b: Kind) -> bool
     ensures { result ≡ same_kind a b }
 {
     match (a, b) {
@@ -203,14 +204,14 @@ fn spoken<'p>(alloc: Global, tag: &Text<'_>, text: &Text<'_>) -> Result<Value<'p
 }
 
 /// Whether the language is that of the default.
-fn is_default(tag: &Text<'_>) -> bool
+pub fn is_default(tag: &Text<'_>) -> bool
     ensures { result ≡ is_default tag.now }
 {
     tag.bytes().eq_ignore_ascii_case(b"x-default")
 }
 
 /// Items with one more of a language, that of the default in front.
-fn one_more_said<'p>(
+pub fn one_more_said<'p>(
     alloc: Global,
     tag: &Text<'_>,
     text: &Text<'_>,
@@ -229,7 +230,7 @@ fn one_more_said<'p>(
 }
 
 /// Items whose one at a place becomes a text.
-fn item_said<'p>(
+pub fn item_said<'p>(
     alloc: Global,
     text: &Text<'_>,
     items: Items<'p>,
@@ -249,7 +250,7 @@ fn item_said<'p>(
 }
 
 /// Items whose one of a language becomes a text, or with one more.
-fn said<'p>(
+pub fn said<'p>(
     alloc: Global,
     tag: &Text<'_>,
     text: &Text<'_>,

@@ -1,8 +1,9 @@
 //! The fields of a structure in slots, as properties are: a map leads from a name to its slot, and a
 //! field that is taken out moves no other.
-ghost use Rattle.std.specs.Prelude.{◌≡◌, ◌++◌, ◌&&◌, false, Some, None, option_to_list, IfOk, slice_get};
+ghost use Rattle.std.specs.Prelude.{◌≡◌, ◌++◌, ◌&&◌, false, Some, None, is_some, option_to_list, IfOk, slice_get};
 ghost use Rattle.xmp_values.specs.Stops.{Gives, rule_of};
 ghost use Rattle.xmp_tree.specs.Wf.{NamesDiffer};
+ghost use Rattle.xmp_tree.specs.Places.{place_of};
 ghost use Rattle.xmp_paths.specs.Paths.{is_end};
 ghost use Rattle.xmp_edit.specs.Actions.{change_of, makes};
 ghost use Rattle.xmp_edit.specs.Edits.{ok_map, at_place, with_member, in_members};
@@ -55,6 +56,14 @@ impl<'p> Fields<'p> {
     {
         let Fields { slots } = self;
         members_of(alloc, slots)
+    }
+
+    /// Whether one of the name is there.
+    pub fn has(&self, alloc: Global, name: &Name<'_>) -> Result<bool, Memory>
+        ensures { IfOk result (λ there. there ≡ is_some (place_of name.now self.now)) }
+    {
+        let key = key_of(alloc, name)?;
+        Ok(self.slots.places.contains_key(&key))
     }
 
     /// The fields after an edit at a name and after it.

@@ -175,7 +175,7 @@ fn in_items<'p>(
 
 /// Items after an edit at the first of a language and after it.
 #[cycle(edit)]
-fn in_tagged<'p>(
+pub fn in_tagged<'p>(
     alloc: Global,
     rest: &[Step],
     action: &Action,

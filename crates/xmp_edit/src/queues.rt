@@ -1,30 +1,44 @@
 //! The items of an array in a queue: one at either end is put in or taken out without moving the
-//! others, and one elsewhere moves those of the shorter side.
-ghost use Rattle.std.specs.Prelude.{◌≡◌, ◌≤◌, [], ◌∷◌, ◌++◌, length, insert, slice_get, slice_set, IfSome, OnOk};
+//! others, and one elsewhere moves those of the shorter side. Where many texts of languages are set one
+//! after the other, a map leads to them.
+ghost use Rattle.std.specs.Prelude.{◌≡◌, ◌≤◌, ◌<◌, [], ◌∷◌, ◌++◌, length, insert, slice_get, slice_set, IfSome, OnOk};
+ghost use Rattle.xmp_values.specs.Stops.{Gives, rule_of};
 ghost use Rattle.xmp_tree.specs.Parts.{simple};
 ghost use Rattle.xmp_tree.specs.Items.{item_put};
+ghost use Rattle.xmp_tree.specs.Places.{tag_place};
+ghost use Rattle.xmp_edit.specs.Actions.{said};
 
+use crate::changing;
+use crate::languages::{self, Languages, Spoken, known};
 use std::alloc::Global;
 use std::collections::VecDeque;
 use std::marker::Model;
 use std::mem;
 use xmp_tree::{Items, Members, Shape, Value};
-use xmp_values::{Memory, Text};
+use xmp_values::{Memory, RuleStop, Text};
+
+/// How many edits by `setlang` in a row are made by looking at each item, before a map is made.
+const FEW: u8 = 16;
 
 /// Items that contracts see as their list.
 #[derive(Drop)]
 pub struct ItemQueue<'p> {
     items: VecDeque<Value<'p>>,
+    /// What is known of them, which each edit but `setlang` forgets.
+    languages: Languages,
 }
 
 impl<'p> Model for ItemQueue<'p> {
     ghost use Rattle.xmp_edit.specs.Codes.{ItemList, items_code};
+    ghost use Rattle.xmp_edit.specs.Languages.{Knows};
 
     ghost Value = { ItemList };
 
     ghost coded = { items_code };
 
     ghost view = { λ q. q.items.items };
+
+    ghost invariant = { λ q. Knows q.languages q.items.items };
 }
 
 /// A text that takes no memory, to stand for an item that is away.
@@ -44,6 +58,7 @@ impl<'p> ItemQueue<'p> {
     {
         ItemQueue {
             items: VecDeque::from_vec(items.into_vec()),
+            languages: Languages::Unknown(0),
         }
     }
 
@@ -51,7 +66,10 @@ impl<'p> ItemQueue<'p> {
     pub fn into_items(self) -> Items<'p>
         ensures { result ≡ self.entry }
     {
-        let ItemQueue { items } = self;
+        let ItemQueue {
+            items,
+            languages: _languages,
+        } = self;
         Items::from_vec(items.into_vec())
     }
 
@@ -67,6 +85,7 @@ impl<'p> ItemQueue<'p> {
         requires { at ≤ length self.old }
         ensures { OnOk result (self.new ≡ insert self.old at item.entry) }
     {
+        self.languages = Languages::Unknown(0);
         self.items.insert(at, item)?;
         Ok(())
     }
@@ -75,6 +94,7 @@ impl<'p> ItemQueue<'p> {
     pub fn push(&mut self, item: Value<'p>) -> Result<(), Memory>
         ensures { OnOk result (self.new ≡ self.old ++ item.entry ∷ []) }
     {
+        self.languages = Languages::Unknown(0);
         self.items.push_back(item)?;
         Ok(())
     }
@@ -84,6 +104,7 @@ impl<'p> ItemQueue<'p> {
         ensures value { result ≡ slice_get self.old at }
         ensures rest { IfSome (slice_get self.old at) (λ v. self.new ≡ slice_set self.old at (simple [])) }
     {
+        self.languages = Languages::Unknown(0);
         match self.items.get_mut(at) {
             Some(item) => Some(mem::replace(item, nothing(alloc))),
             None => None,
@@ -94,7 +115,10 @@ impl<'p> ItemQueue<'p> {
     pub fn refill(self, at: usize, given: Option<Value<'p>>) -> ItemQueue<'p>
         ensures { IfSome (slice_get self.entry at) (λ v. result ≡ item_put self.entry at given.entry) }
     {
-        let ItemQueue { items } = self;
+        let ItemQueue {
+            items,
+            languages: _languages,
+        } = self;
         let mut items = items;
         match given {
             Some(value) => put(&mut items, at, value),
@@ -102,7 +126,47 @@ impl<'p> ItemQueue<'p> {
                 items.remove(at);
             }
         }
-        ItemQueue { items }
+        let languages = Languages::Unknown(0);
+        ItemQueue { items, languages }
+    }
+
+    /// Items whose one of a language becomes a text, or with one more. The time grows as the logarithm
+    /// of their number where such an edit follows many others.
+    pub fn said(
+        self,
+        alloc: Global,
+        tag: &Text<'_>,
+        text: &Text<'_>,
+    ) -> Result<ItemQueue<'p>, RuleStop>
+        ensures { Gives rule_of result (said tag.now text.now self.entry (tag_place tag.now self.entry)) }
+    {
+        let ItemQueue { items, languages } = self;
+        let items = Items::from_vec(items.into_vec());
+        match few(&languages) {
+            Some(count) => {
+                let items = changing::said(alloc, tag, text, items)?;
+                let languages = Languages::Unknown(count + 1);
+                let items = VecDeque::from_vec(items.into_vec());
+                Ok(ItemQueue { items, languages })
+            }
+            None => {
+                let spoken = known(alloc, items, languages)?;
+                let Spoken { items, places } = languages::said(alloc, tag, text, spoken)?;
+                let languages = Languages::Known(places);
+                let items = VecDeque::from_vec(items.into_vec());
+                Ok(ItemQueue { items, languages })
+            }
+        }
+    }
+}
+
+/// How many edits by `setlang` came one after the other, where they are few.
+fn few(languages: &Languages) -> Option<u8>
+    ensures { IfSome result (λ count. count < 16) }
+{
+    match languages {
+        Languages::Unknown(count) => { if *count < FEW { Some(*count) } else { None } }
+        Languages::Known(_) => None,
     }
 }
 
