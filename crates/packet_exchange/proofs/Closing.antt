@@ -1,16 +1,18 @@
 -- The three writes of an exchange, and what the payload is between them.
 use Rattle.std.proofs.Common.{◌≡◌, ◌≢◌, ◌⊎◌, ℕ, ◌+◌, ◌-◌, ◌≤◌, List, [], ◌∷◌, ◌++◌, length, take, drop, refl, sym, ap, ◌∙◌, subst, arith, Ok, Err, Result, inl, inr, IsErr, IsTrue, append_assoc, Bool, true, false, eqb, cond, ◌==◌}
 use Rattle.std.proofs.lemmas.Bool.{eqb-true, eqb-false}
-use Rattle.std.proofs.lemmas.List.{length-take-le, length-drop, drop-take, take-take, drop_all, append-nil, take-append-le, drop-append-le, take-append-drop}
+use Rattle.std.proofs.lemmas.List.{length-take-le, length-drop, drop-take, take-take, drop_all, take_all, append-nil, take-append-le, drop-append-le, take-append-drop}
 use Rattle.std.proofs.lemmas.List.Sums.{common_prefix_len-le}
 use Rattle.xmp_base.specs.declared.device.Failed.{Failed}
 use Rattle.xmp_base.specs.Device.{DeskState, put_at}
 use Rattle.xmp_base.specs.Exchange.{Exchanged, IsPut, PutCall}
 use Rattle.xmp_base.proofs.Calls.{rose_after}
 use Rattle.xmp_base.proofs.Ranges.{put_length}
-use Rattle.xmp_base.proofs.Exchanges.{weaker, both, wider}
+use Rattle.xmp_base.proofs.Exchanges.{none, weaker, both, wider}
+use Rattle.xmp_base.proofs.Inside.{inside_wider}
 use Rattle.xmp_lanes.specs.Runs.{same_run}
-use Rattle.packet_exchange.specs.Closing.{is_open, Closed, Left, ExchangeCall}
+use Rattle.packet_exchange.specs.Closing.{is_open, Closed, Left, WritesFrom, ExchangeCall}
+use Rattle.packet_exchange.proofs.Writing.{first_writes, rest_writes, writes_none, writes_trans}
 
 -- the first bytes of two lists up to their first difference
 pub same_front : (a b : List ℕ) → take (same_run a b) a ≡ take (same_run a b) b
@@ -29,6 +31,15 @@ pub opens : (l : List ℕ) → IsTrue (is_open l) → take 2 l ≡ 60 ∷ 63 ∷
 opens [] e = absurd (cc e)
 opens (a ∷ []) e = grind arith
 opens (a ∷ b ∷ l) e = grind arith
+
+-- a payload begins whole as itself does
+same_whole : (a : List ℕ) → same_run a a ≡ length a
+same_whole [] = refl
+same_whole (x ∷ a) = by (x == x) refl (same_whole a)
+  where
+    by : (t : Bool) → (x == x) ≡ t → same_run a a ≡ length a → cond t (1 + same_run a a) 0 ≡ length (x ∷ a)
+    by true e rest = grind (arith, rest)
+    by false e rest = absurd (eqb-false x x e refl)
 
 -- two payloads that begin so differ after that, if at all
 pub past_open : (a b : List ℕ) → IsTrue (is_open a) → IsTrue (is_open b) → 2 ≤ same_run a b
@@ -83,7 +94,28 @@ spaced l = put_at l 0 (32 ∷ [])
 spaced_closed : (l : List ℕ) → take 2 l ≡ 60 ∷ 63 ∷ [] → take 2 (spaced l) ≡ 32 ∷ 63 ∷ []
 spaced_closed l opened = ap (take 2) (put_first l (32 ∷ []) refl) ∙ second_same l 32 opened
 
-module _ (old new : List ℕ) (from : ℕ) (is_first : from ≡ same_run old new) (size : length old ≡ length new) (old_opens : IsTrue (is_open old)) (new_opens : IsTrue (is_open new)) where
+-- payloads that differ nowhere are one
+all_same : (old new : List ℕ) → length old ≡ length new → length new ≡ same_run old new → old ≡ new
+all_same old new size whole =
+    sym (take_all (length new) old (omega (arith, size)))
+    ∙ subst (λ (n : ℕ). take n old ≡ take n new) (sym whole) (same_front old new)
+    ∙ take_all (length new) new (omega arith)
+
+-- a payload that stays is left as it is
+pub stayed : (s : DeskState) (name : List ℕ) (at : ℕ) (old new : List ℕ) (from : ℕ) → from ≡ same_run old new → length old ≡ length new → from ≡ length new → ExchangeCall s s name at old new (Ok tt)
+stayed s name at old new from is_first size whole = record {
+  payload = weaker s s name at (length new) (λ was now. now ≡ was) (λ was now. was ≡ old → now ≡ new)
+      (λ was now x y p is. p ∙ is ∙ all_same old new size (sym whole ∙ is_first)) (none s name at (length new));
+  writes = writes_none name at (same_run old new) (length new) s.wrote s.wrote refl;
+  idle = λ same. refl;
+  failed = tt;
+}
+
+module _ (old new : List ℕ) (from : ℕ) (is_first : from ≡ same_run old new) (size : length old ≡ length new) (old_opens : IsTrue (is_open old)) (new_opens : IsTrue (is_open new)) (short : from ≢ length new) where
+  -- payloads with a difference aren't one
+  differ : {A : Type 0} → old ≡ new → A
+  differ same = absurd (short (is_first ∙ ap (λ (l : List ℕ). same_run l new) same ∙ same_whole new))
+
   past : 2 ≤ from
   past = subst (λ (k : ℕ). 2 ≤ k) (sym is_first) (past_open old new old_opens new_opens)
 
@@ -116,6 +148,18 @@ module _ (old new : List ℕ) (from : ℕ) (is_first : from ≡ same_run old new
   from_first : (s t : DeskState) (name : List ℕ) (at : ℕ) (piece : List ℕ) (r : Result (Unit {0}) Failed) → PutCall s t name at piece r → PutCall s t name (at + 0) piece r
   from_first s t name at piece r call = let e : at ≡ at + 0 = omega arith in subst (λ (k : ℕ). PutCall s t name k piece r) e call
 
+  -- each of the three writes is of the first byte, or of those from the first difference on
+  abbrev Written : List ℕ → ℕ → DeskState → DeskState → Type 0
+  Written name at s t = WritesFrom name at (same_run old new) (length new) s.wrote t.wrote
+
+  first_put : (s t : DeskState) (name : List ℕ) (at b : ℕ) (r : Result (Unit {0}) Failed) → PutCall s t name at (b ∷ []) r → Written name at s t
+  first_put s t name at b r call = first_writes name at (same_run old new) (length new) s.wrote t.wrote call.put.wrote
+
+  rest_put : (s t : DeskState) (name : List ℕ) (at : ℕ) (r : Result (Unit {0}) Failed) → PutCall s t name (at + from) (drop from new) r → Written name at s t
+  rest_put s t name at r call = rest_writes name at (same_run old new) (length new) s.wrote t.wrote
+      (inside_wider name (at + same_run old new) (at + length new) s.wrote (at + from) (at + from + length (drop from new)) t.wrote
+      (omega (arith, is_first)) (omega (arith, inside, length-drop from new)) call.put.wrote)
+
   module _ (s t : DeskState) (name : List ℕ) (at i : ℕ) (piece : List ℕ) (within : i + length piece ≤ length new) where
     inner_ok : PutCall s t name (at + i) piece (Ok tt) → Exchanged s t name at (length new) (λ was now. now ≡ put_at was i piece)
     inner_ok call = wider s t name at (length new) i (length piece) (λ was now. now ≡ piece) (λ was now. now ≡ put_at was i piece) within (λ was q x y p. ap (put_at was i) p) call.put
@@ -136,6 +180,8 @@ module _ (old new : List ℕ) (from : ℕ) (is_first : from ≡ same_run old new
             | inr closed ↦ inr (inr (subst Closed (sym (put_old was now p.0 is p.1 p.2)) closed))
           ])
           (inner_err s t name at 0 (32 ∷ []) first e (from_first s t name at (32 ∷ []) (Err e) call));
+      writes = first_put s t name at 32 (Err e) call;
+      idle = λ same_2. differ same_2;
       failed = call.failed;
     }
       where
@@ -155,12 +201,17 @@ module _ (old new : List ℕ) (from : ℕ) (is_first : from ≡ same_run old new
       rest_within : from + length (drop from new) ≤ length new
       rest_within = omega (arith, inside, length-drop from new)
 
+      two_writes : Written name at t u → Written name at s u
+      two_writes more = writes_trans name at (same_run old new) (length new) s.wrote t.wrote u.wrote (first_put s t name at 32 (Ok tt) space) more
+
       pub rest_failed : (e : Failed) (result : Result (Unit {0}) Failed) → PutCall t u name (at + from) (drop from new) (Err e) → IsErr result → ExchangeCall s u name at old new result
       rest_failed e (Ok x) call err = absurd (cc err)
       rest_failed e (Err f) call err = record {
         payload = both s t u name at (length new) Spaced (TornIn t u name at from (drop from new) rest_within) (λ was now. was ≡ old → Left (Err f) old new now)
             (λ was mid now x y z p q is. inr (inr (subst Closed (sym (q.2 ∙ ap (λ (l : List ℕ). put_at l from q.0) (p ∙ ap spaced is))) (still_closed q.0))))
             spacing (inner_err t u name at from (drop from new) rest_within e call);
+        writes = two_writes (rest_put t u name at (Err e) call);
+        idle = λ same_2. differ same_2;
         failed = rose_after s.faults t.faults u.faults space.put.counts.faults call.failed;
       }
 
@@ -175,6 +226,9 @@ module _ (old new : List ℕ) (from : ℕ) (is_first : from ≡ same_run old new
         first : 0 + length {A = ℕ} (60 ∷ []) ≤ length new
         first = omega (arith, past, inside)
 
+        three_writes : Written name at u v → Written name at s v
+        three_writes more = writes_trans name at (same_run old new) (length new) s.wrote u.wrote v.wrote (two_writes (rest_put t u name at (Ok tt) rest)) more
+
         opened : (was mid now q : List ℕ) → was ≡ old → Filled was mid → length q ≡ 1 → now ≡ put_at mid 0 q → now ≡ q ++ drop 1 new
         opened was mid now q is p one e = e ∙ put_first mid q one
             ∙ ap (λ (l : List ℕ). q ++ drop 1 l) (p ∙ ap (λ (l : List ℕ). put_at (spaced l) from (drop from new)) is)
@@ -185,6 +239,8 @@ module _ (old new : List ℕ) (from : ℕ) (is_first : from ≡ same_run old new
           payload = both s u v name at (length new) Filled (λ was now. now ≡ put_at was 0 (60 ∷ [])) (λ was now. was ≡ old → now ≡ new)
               (λ was mid now x y z p q is. opened was mid now (60 ∷ []) is p refl q ∙ sym (first_same new 60 63 (opens new new_opens)))
               filling (inner_ok u v name at 0 (60 ∷ []) first (from_first u v name at (60 ∷ []) (Ok tt) call));
+          writes = three_writes (first_put u v name at 60 (Ok tt) call);
+          idle = λ same_2. differ same_2;
           failed = tt;
         }
         exchanged (Err e) call = record {
@@ -194,5 +250,7 @@ module _ (old new : List ℕ) (from : ℕ) (is_first : from ≡ same_run old new
                 | inr closed ↦ inr (inr (subst Closed (sym (opened was mid now q.0 is p q.1 q.2)) closed))
               ])
               filling (inner_err u v name at 0 (60 ∷ []) first e (from_first u v name at (60 ∷ []) (Err e) call));
+          writes = three_writes (first_put u v name at 60 (Err e) call);
+          idle = λ same_2. differ same_2;
           failed = rose_after s.faults u.faults v.faults (omega (arith, space.put.counts.faults, rest.put.counts.faults)) call.failed;
         }

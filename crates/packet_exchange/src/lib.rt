@@ -19,7 +19,7 @@ use xmp_lanes::same_run;
 
 /// Exchanges the payload at `at`, whose bytes are those of `old`, for one that is as long. Both begin
 /// with `<?`. A space stands in place of the `<` while the bytes from the first difference on are
-/// written.
+/// written. Where there is none, nothing is written.
 ///
 /// # Errors
 /// `Failed` after a failure that the desk counted. The payload is then the old one, the new one, or
@@ -40,6 +40,9 @@ pub fn exchange_packet<D: Desk>(
     ensures call { ExchangeCall (D.state desk.old) (D.state desk.new) name.now at old.now new.now result }
 {
     let from = first_difference(old, new);
+    if from == new.len() {
+        return Ok(());
+    }
     put_inside(desk, name, at, b" ")?;
     put_inside(desk, name, at + from as u64, &new[from..])?;
     put_inside(desk, name, at, b"<")
