@@ -1,9 +1,11 @@
 #!/usr/bin/env python3
-"""TIFF files for the measurements: hostile shapes, and a large ordinary one. All are big-endian and classic.
+"""TIFF files for the measurements: hostile shapes, and a large ordinary one. All are classic, and big-endian but for
+`prepended`.
 
     bench/tiffs.py SHAPE FILE
 
-`directories` and `tables` name some 65 million entries and strips in a file of 0.8 MB, `strips` a million in one of 8 MB.
+`directories` and `tables` name some 65 million entries and strips in a file of 0.8 MB, `strips` a million in one of 8 MB. Of
+`prepended` and `shifted` the bytes that are kept meet or touch, and each run of them begins before those that are kept.
 """
 
 import sys
@@ -74,6 +76,32 @@ def crossed(count: int = 65_536) -> bytes:
     return header(8) + directory(first, 8 + size) + directory(second, 0) + small
 
 
+def prepended(count: int = 8_000_000, directories: int = 998) -> bytes:
+    """A table of 32 MB, and directories without entries before it, reached from the last to the first.
+
+    Each ends after the count of the one that follows it in the file, which is 0 and is half of the offset of the next.
+    """
+    first = 8 + 2 + 12 * 2 + 4
+    table = first + 2 + 4 * directories
+    head = b"II" + pack("<HI", 42, 8) + pack("<H", 2)
+    head += b"".join(pack("<HHII", tag, LONG, count, table) for tag in (OFFSETS, LENGTHS))
+    head += pack("<I", first + 4 * (directories - 1))
+    chain = [0] + [first + 4 * k for k in range(directories - 1)]
+    return head + pack("<H", 0) + b"".join(pack("<I", place) for place in chain) + pack("<I", 1) * count
+
+
+def shifted(count: int = 2_000_000, directories: int = 100) -> bytes:
+    """Directories with tables of 8 MB, of which each begins a number before the one that was read last."""
+    size = size_of(2)
+    at = 8 + directories * size
+    parts = [header(8)]
+    for k in range(1, directories + 1):
+        start = at + 4 * (directories - k)
+        entries = [(OFFSETS, LONG, count, start), (LENGTHS, LONG, count, start)]
+        parts.append(directory(entries, 8 + size * k if k < directories else 0))
+    return b"".join(parts) + pack(">I", 1) * (count + directories - 1)
+
+
 def usual(pages: int = 20, page: int = 25_000_000, rows: int = 20) -> bytes:
     """So many pages of 25 MB in strips, each with a directory of 15 entries after its strips."""
     parts, at = [], 8
@@ -93,7 +121,7 @@ def usual(pages: int = 20, page: int = 25_000_000, rows: int = 20) -> bytes:
     return header(8 + page + 8 * rows) + b"".join(parts)
 
 
-SHAPES = {shape.__name__: shape for shape in (directories, strips, tables, crossed, usual)}
+SHAPES = {shape.__name__: shape for shape in (directories, strips, tables, crossed, prepended, shifted, usual)}
 
 if __name__ == "__main__":
     name, path = sys.argv[1:]

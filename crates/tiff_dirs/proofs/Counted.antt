@@ -1,7 +1,7 @@
 -- The ranges of pairs, by the pieces that are kept.
-use Rattle.std.proofs.Common.{◌≡◌, ℕ, zero, suc, ◌+◌, ◌-◌, ◌*◌, ◌<◌, ◌≤◌, inl, inr, Bool, true, List, [], ◌∷◌, ◌++◌, length, take, drop, map, get_or, refl, sym, ap, subst, ◌∙◌, arith, Some, None}
+use Rattle.std.proofs.Common.{◌≡◌, ℕ, zero, suc, ◌+◌, ◌-◌, ◌*◌, ◌<◌, ◌≤◌, inl, inr, Bool, true, List, [], ◌∷◌, ◌++◌, length, take, drop, map, get_or, refl, sym, ap, subst, ◌∙◌, arith, Some}
 use Rattle.std.specs.declared.option.Option.{Option}
-use Rattle.std.specs.List.{All, flat_map, slice_get, sum_by}
+use Rattle.std.specs.List.{All, flat_map, slice_get}
 use Rattle.std.proofs.lemmas.List.{length-append, length-map, drop_all, map_push, take_more, flat_map_more}
 use Rattle.std.proofs.lemmas.List.Elements.{All-head, All-tail}
 use Rattle.std.proofs.lemmas.List.Sums.{sum_by-cons, sum_by_push}
@@ -13,12 +13,12 @@ use Rattle.tiff_dirs.specs.declared.tables.Table.{Table}
 use Rattle.tiff_dirs.specs.declared.tables.Pair.{Pair}
 use Rattle.tiff_dirs.specs.declared.tables.PlacedPair.{PlacedPair}
 use Rattle.tiff_dirs.specs.declared.tables.CountedPair.{CountedPair}
-use Rattle.tiff_dirs.specs.Numbers.{number, numbers}
+use Rattle.tiff_dirs.specs.Numbers.{numbers}
 use Rattle.tiff_dirs.specs.Types.{size_of}
 use Rattle.tiff_dirs.specs.Pictures.{Picture, are_paired, items_of, ranges, spans_of}
 use Rattle.tiff_dirs.specs.Kept.{Has, Holds}
 use Rattle.tiff_dirs.specs.Nearest.{closest}
-use Rattle.tiff_dirs.specs.Pairs.{ranges_from, ranges_in, spans_in, bytes_by, ranges_by, spans_by, IsTable, IsPair, IsCounted, count_of, IsRanked}
+use Rattle.tiff_dirs.specs.Pairs.{ranges_from, ranges_in, spans_in, bytes_by, ranges_by, spans_by, IsPair, IsCounted, count_of, IsRanked}
 use Rattle.tiff_dirs.proofs.Kept.{All-at, pushed}
 use Rattle.tiff_dirs.proofs.Nearest.{closest_append, drop_at}
 use Rattle.tiff_dirs.proofs.Piece.{numbers_part, part_of}

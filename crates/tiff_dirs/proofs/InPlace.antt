@@ -1,8 +1,5 @@
 -- A packet that is exchanged in its place leaves the directories and the pictures as they are.
-use Rattle.tiff_dirs.specs.Tiff.{first_entry, Tiff}
-use Rattle.tiff_dirs.specs.declared.entry.Entry.{Entry}
-use Rattle.std.specs.declared.option.Option.{Option}
-use Rattle.std.proofs.Common.{subst, ◌≡◌, ℕ, zero, suc, ◌+◌, ◌-◌, ◌<◌, ◌≤◌, ◌⊎◌, inl, inr, ◌&&◌, Bool, true, false, if◌then◌else◌, List, [], ◌∷◌, ◌++◌, length, take, drop, refl, sym, ap, ◌∙◌, arith, append_assoc, Some, None, All, Contains}
+use Rattle.std.proofs.Common.{◌≡◌, ℕ, zero, suc, ◌+◌, ◌-◌, ◌<◌, ◌≤◌, ◌⊎◌, inl, inr, ◌&&◌, Bool, true, false, if◌then◌else◌, List, [], ◌∷◌, ◌++◌, length, take, drop, refl, sym, ap, ◌∙◌, arith, append_assoc, Some, None, All, Contains}
 use Rattle.std.proofs.lemmas.List.{drop-drop, drop-take, take-take, drop_at, take_at, length-take-le}
 use Rattle.std.proofs.lemmas.List.Elements.{All-nil, All-cons, All-contains, Contains-append_right}
 use Rattle.xmp_base.specs.Device.{put_at}
@@ -11,7 +8,7 @@ use Rattle.xmp_base.proofs.Ranges.{put_length}
 use Rattle.tiff_dirs.specs.Types.{is_packet}
 use Rattle.tiff_dirs.specs.Layouts.{layout_of}
 use Rattle.tiff_dirs.specs.Directories.{is_apart}
-use Rattle.tiff_dirs.specs.Model.{IsTiff, Found}
+use Rattle.tiff_dirs.specs.Model.{Found}
 use Rattle.tiff_dirs.specs.Tables.{tables_of}
 use Rattle.tiff_dirs.specs.Frames.{bytes_in}
 use Rattle.tiff_dirs.specs.Overlaps.{Meets, others, own, own_of}

@@ -1,7 +1,7 @@
 -- Where the values of a file's entries stand: the tables of a walk lie in named ranges other than the packet and the pictures.
-use Rattle.std.proofs.Common.{get_or, ◌≡◌, ◌==◌, ℕ, zero, suc, ◌+◌, ◌*◌, ◌≤◌, inl, inr, ◌⊎◌, not, ◌≢◌, nat_le, nat_lt, ◌||◌, Bool, true, false, if◌then◌else◌, List, [], ◌∷◌, ◌++◌, length, take, drop, map, refl, sym, ap, subst, ◌∙◌, arith, None, Some, All, Contains}
+use Rattle.std.proofs.Common.{◌≡◌, ◌==◌, ℕ, zero, suc, ◌+◌, ◌*◌, ◌≤◌, inl, inr, ◌⊎◌, not, ◌≢◌, nat_le, nat_lt, ◌||◌, Bool, true, false, if◌then◌else◌, List, [], ◌∷◌, ◌++◌, length, take, drop, map, refl, sym, ap, subst, ◌∙◌, arith, None, Some, All, Contains}
 use Rattle.std.specs.declared.option.Option.{Option}
-use Rattle.std.specs.List.{find, flat_map}
+use Rattle.std.specs.List.{flat_map}
 use Rattle.std.proofs.Math.Nat.{mul-suc}
 use Rattle.std.proofs.lemmas.Bool.Decides.{nat_tests}
 use Rattle.std.proofs.lemmas.List.Elements.{All-nil, All-cons, Contains-append_left, Contains-append_right, Contains-append_cases}
@@ -17,7 +17,7 @@ use Rattle.tiff_dirs.specs.Directories.{span, value_at, entry_at, entries_from, 
 use Rattle.tiff_dirs.specs.Faults.{broken, value_out, entry_fault, entries_fault, pictures_fault, inner_fault, place_fault, fault_at, is_packet_tag}
 use Rattle.tiff_dirs.specs.Pictures.{pictures_of, first_of_tag}
 use Rattle.tiff_dirs.specs.Offsets.{Walks}
-use Rattle.tiff_dirs.specs.Tiff.{tiff_of, Dir, Tiff, dir_at, first_entry}
+use Rattle.tiff_dirs.specs.Tiff.{Tiff, dir_at, first_entry}
 use Rattle.tiff_dirs.specs.Model.{Found}
 use Rattle.tiff_dirs.specs.Tables.{is_table, table_of, tables_in, tables_at, tables_of}
 use Rattle.tiff_dirs.specs.Standing.{Within, Stands}

@@ -1,5 +1,5 @@
 -- Pairs of offsets and lengths, by where their tables stand, and the ranges that they name.
-use Rattle.std.specs.Prelude.{◌≡◌, ℕ, ◌-◌, ◌*◌, ◌<◌, ◌^◌, Bool, List, [], ◌∷◌, All, length, take, drop, flat_map, sum_by, slice_get, Ok, Err, Some, None}
+use Rattle.std.specs.Prelude.{◌≡◌, ℕ, ◌-◌, ◌*◌, Bool, List, [], ◌∷◌, All, length, take, drop, flat_map, sum_by, slice_get, Ok, Err, Some, None}
 use Rattle.std.specs.declared.option.Option.{Option}
 use Rattle.std.specs.declared.result.Result.{Result}
 use Rattle.xmp_base.specs.declared.file_span.FileSpan.{FileSpan}

@@ -155,7 +155,7 @@ pub fn kept_range(big: bool, len: u64, pieces: &[Piece], pairs: &[CountedPair], 
 {
     let counted = &pairs[pair_of(pairs, i)];
     let listed = listed_by(big, len, pieces, &counted.placed);
-    nth_range(&listed, len, i - counted.first)
+    nth_range(&listed, len, counted.shown, i - counted.first)
 }
 
 /// The best with the ranges of the pairs.

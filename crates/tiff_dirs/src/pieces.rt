@@ -1,5 +1,5 @@
-//! The bytes of tables that were read, each kept once.
-ghost use Rattle.std.specs.Prelude.{◌≡◌, ℕ, ◌+◌, ◌≤◌, ◌++◌, ◌⊎◌, List, All, length, slice_get, IfOk, IfSome, IsTrue, Some};
+//! The bytes of tables that were read, each kept once, or little more often.
+ghost use Rattle.std.specs.Prelude.{◌≡◌, ℕ, ◌+◌, ◌≤◌, ◌++◌, ◌⊎◌, List, All, length, slice_get, IfOk, IfSome, IsTrue, Some, None};
 ghost use Rattle.tiff_dirs.specs.Parts.{IsPart};
 ghost use Rattle.tiff_dirs.specs.Kept.{Covers, Has, Holds, InPiece};
 
@@ -81,25 +81,43 @@ fn piece_at(alloc: Global, pieces: &mut Vec<Piece>, at: u64) -> Piece
     }
 }
 
-/// Appends to a piece those that begin in it or right after it.
+/// Takes out a piece that begins in a run of bytes or right after it, and is about four times as long at
+/// most.
+fn short_after(pieces: &mut Vec<Piece>, run: &Piece) -> Option<Piece>
+    ensures begins { IfSome result (λ p. run.now.start ≤ p.start) }
+    ensures touches { IfSome result (λ p. p.start ≤ run.now.start + length run.now.bytes.items) }
+    ensures holds { IfSome result (λ p. (file : List ℕ) → All (Holds file) pieces.old.items → Holds file p × All (Holds file) pieces.new.items) }
+    ensures inside { IfSome result (λ p. (from to : ℕ) → InPiece pieces.old.items from to → InPiece pieces.new.items from to ⊎ Covers p from to) }
+    ensures none { result ≡ None → pieces.new.items ≡ pieces.old.items }
+{
+    for k in 0..pieces.len() {
+        if run.touches(pieces[k].start) && pieces[k].bytes.len() / 4 <= run.bytes.len() {
+            return Some(pieces.remove(k));
+        }
+    }
+    None
+}
+
+/// Appends to a run of bytes the pieces that begin in it or right after it, but for those that are far
+/// longer: a table isn't copied for each directory that stands before it. Of two pieces of which one
+/// begins in the other, that one is then some four times as long, so what pieces have in common is little.
 fn absorb(pieces: &mut Vec<Piece>, run: &mut Piece) -> Result<(), Memory>
     ensures holds { IfOk result (λ _. (file : List ℕ) → Holds file run.old → All (Holds file) pieces.old.items → Holds file run.new × All (Holds file) pieces.new.items) }
     ensures run { IfOk result (λ _. (from to : ℕ) → Covers run.old from to → Covers run.new from to) }
     ensures inside { IfOk result (λ _. (from to : ℕ) → InPiece pieces.old.items from to → InPiece pieces.new.items from to ⊎ Covers run.new from to) }
 {
-    let mut k = 0;
-    while k < pieces.len() {
-        if run.touches(pieces[k].start) {
-            let piece = pieces.remove(k);
-            run.append(piece.start, piece.bytes.as_slice())?;
-        } else {
-            k += 1;
-        }
+    let most = pieces.len();
+    for _ in 0..most {
+        let Some(piece) = short_after(pieces, run) else {
+            return Ok(());
+        };
+        run.append(piece.start, piece.bytes.as_slice())?;
     }
     Ok(())
 }
 
-/// Keeps bytes of a file, each once: they and the pieces that they meet or touch become one piece.
+/// Keeps bytes of a file: they and the pieces that they meet or touch become one piece, but for far longer
+/// ones behind them.
 pub fn keep(alloc: Global, pieces: &mut Vec<Piece>, start: u64, bytes: &[u8]) -> Result<(), Memory>
     ensures holds { IfOk result (λ _. (file : List ℕ) → IsPart bytes.now start file → All (Holds file) pieces.old.items → All (Holds file) pieces.new.items) }
     ensures kept { IfOk result (λ _. InPiece pieces.new.items start (start + length bytes.now)) }

@@ -50,8 +50,8 @@ pub fn count_ranges(listed: &Listed, len: u64) -> Result<u64, TiffStop>
     Ok(shown)
 }
 
-/// Range `n` of a pair.
-pub fn nth_range(listed: &Listed, len: u64, n: u64) -> FileSpan
+/// Range `n` of a pair of which some lengths may be 0.
+fn counted_range(listed: &Listed, len: u64, n: u64) -> FileSpan
     requires clear { pictures_fault len (listed_from listed.now 0) ≡ None }
     requires within { n < length (listed_from listed.now 0) }
     ensures { slice_get (spans_of (listed_from listed.now 0)) n ≡ Some result }
@@ -66,6 +66,22 @@ pub fn nth_range(listed: &Listed, len: u64, n: u64) -> FileSpan
         }
     }
     unreachable!()
+}
+
+/// Range `n` of a pair that names `shown` ranges. Where it names as many as it has numbers, none of
+/// those before has to be counted.
+pub fn nth_range(listed: &Listed, len: u64, shown: u64, n: u64) -> FileSpan
+    requires clear { pictures_fault len (listed_from listed.now 0) ≡ None }
+    requires shown { shown ≡ length (listed_from listed.now 0) }
+    requires within { n < shown }
+    ensures { slice_get (spans_of (listed_from listed.now 0)) n ≡ Some result }
+{
+    if shown == listed.pair.count {
+        if let Ok(Some(range)) = range_at(listed, len, n) {
+            return range;
+        }
+    }
+    counted_range(listed, len, n)
 }
 
 /// The best with the ranges of a pair.

@@ -1,4 +1,4 @@
-use Rattle.std.proofs.Common.{◌≡◌, ◌≢◌, ℕ, ◌+◌, ◌*◌, length, sym, ap, subst, ◌∙◌, arith}
+use Rattle.std.proofs.Common.{◌≢◌, ℕ, ◌+◌, ◌*◌, sym, ap, subst, ◌∙◌, arith}
 use Rattle.std.proofs.lemmas.List.{drop_all}
 use Rattle.tiff_dirs.specs.Parts.{entry_in}
 use Rattle.tiff_dirs.specs.Pictures.{first_of_tag}

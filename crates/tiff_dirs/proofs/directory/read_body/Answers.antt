@@ -7,7 +7,7 @@ use Rattle.tiff_dirs.specs.Directories.{entries_at}
 use Rattle.tiff_dirs.specs.Faults.{entries_fault, inner_fault}
 use Rattle.tiff_dirs.specs.Parts.{entries_in_part}
 use Rattle.tiff_dirs.specs.Pairs.{spans_in}
-use Rattle.tiff_dirs.specs.Walking.{StopsAt, Stops}
+use Rattle.tiff_dirs.specs.Walking.{StopsAt}
 use Rattle.tiff_dirs.proofs.Entries.{stops_by}
 use Rattle.tiff_dirs.proofs.Reading.{body_by_entries, body_by_pictures}
 use Rattle.tiff_dirs.proofs.Bodies.{body_read, body_values, body_more, entries_known, next_known, body_known, is_part}

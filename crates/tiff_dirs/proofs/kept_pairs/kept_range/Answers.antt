@@ -1,10 +1,10 @@
-use Rattle.std.proofs.Common.{◌≡◌, ◌+◌, ◌-◌, ◌≤◌, ◌<◌, Some, length, get_or, take, sym, ap, ◌∙◌, arith}
+use Rattle.std.proofs.Common.{◌-◌, length, get_or, take, sym, ap, ◌∙◌, arith}
 use Rattle.std.specs.List.{slice_get}
 use Rattle.std.proofs.lemmas.Option.{slice_get-get_or}
 use Rattle.std.proofs.lemmas.List.Elements.{All-get_or}
 use Rattle.std.proofs.lemmas.List.Sums.{sum_by_more}
 use Rattle.tiff_dirs.specs.declared.tables.CountedPair.{CountedPair}
-use Rattle.tiff_dirs.specs.Pictures.{Picture, spans_of}
+use Rattle.tiff_dirs.specs.Pictures.{spans_of}
 use Rattle.tiff_dirs.specs.Pairs.{IsCounted, count_of, listed_from}
 use Rattle.tiff_dirs.proofs.Counted.{none, range_of}
 use Rattle.tiff_dirs.proofs.kept_pairs.kept_range.Goals as goal

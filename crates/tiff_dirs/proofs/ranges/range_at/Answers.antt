@@ -1,6 +1,5 @@
-use Rattle.std.proofs.Common.{◌≡◌, ◌≢◌, ◌+◌, ◌*◌, ◌<◌, ◌++◌, refl, arith}
+use Rattle.std.proofs.Common.{◌+◌, ◌*◌, ◌<◌, refl, arith}
 use Rattle.tiff_dirs.specs.Numbers.{number}
-use Rattle.tiff_dirs.specs.Pictures.{range_at}
 use Rattle.tiff_dirs.specs.Pairs.{listed_from}
 use Rattle.tiff_dirs.proofs.Listing.{ranges_next, item_none, item_some, item_out}
 use Rattle.tiff_dirs.proofs.ranges.range_at.Goals.{then-start-len-via-then-start-len, then-start-len-via-else-start-len+then-size-len}

@@ -3,7 +3,7 @@ use Rattle.std.specs.List.{slice_get}
 use Rattle.tiff_dirs.specs.Pictures.{spans_of}
 use Rattle.tiff_dirs.specs.Faults.{pictures_fault}
 use Rattle.tiff_dirs.specs.Pairs.{listed_from}
-use Rattle.tiff_dirs.proofs.ranges.nth_range.Given as goal
+use Rattle.tiff_dirs.proofs.ranges.counted_range.Given as goal
 
 -- the range that is sought is one of those that are left
 abbrev pub invariant-loop-k : goal.invariant-loop-k
