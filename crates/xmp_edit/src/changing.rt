@@ -249,8 +249,24 @@ pub fn item_said<'p>(
     }
 }
 
+/// Items whose one at the place becomes a text, or with one more of the language where there is none.
+pub fn said_at<'p>(
+    alloc: Global,
+    tag: &Text<'_>,
+    text: &Text<'_>,
+    items: Items<'p>,
+    place: Option<usize>,
+) -> Result<Items<'p>, RuleStop>
+    ensures { Gives rule_of result (said tag.now text.now items.entry place) }
+{
+    match place {
+        Some(at) => item_said(alloc, text, items, at),
+        None => one_more_said(alloc, tag, text, items),
+    }
+}
+
 /// Items whose one of a language becomes a text, or with one more.
-pub fn said<'p>(
+fn said<'p>(
     alloc: Global,
     tag: &Text<'_>,
     text: &Text<'_>,
@@ -258,10 +274,8 @@ pub fn said<'p>(
 ) -> Result<Items<'p>, RuleStop>
     ensures { Gives rule_of result (said tag.now text.now items.entry (tag_place tag.now items.entry)) }
 {
-    match tag_place(items.as_slice(), tag.bytes()) {
-        Some(at) => item_said(alloc, text, items, at),
-        None => one_more_said(alloc, tag, text, items),
-    }
+    let place = tag_place(items.as_slice(), tag.bytes());
+    said_at(alloc, tag, text, items, place)
 }
 
 /// An array of alternatives with a text of a language, or such a one in a missing place.

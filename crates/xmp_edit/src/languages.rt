@@ -20,8 +20,8 @@ pub type Places = BTreeMap<Vec<u8>, usize>;
 /// What is known of the languages of items.
 #[derive(Drop)]
 pub enum Languages {
-    /// Nothing, but how many edits by `setlang` came one after the other.
-    Unknown(u8),
+    /// Nothing, but how many items `setlang` has looked at since it was known.
+    Unknown(usize),
     /// Where each is.
     Known(BTreeMap<Vec<u8>, usize>),
 }

@@ -1,24 +1,25 @@
 //! The items of an array in a queue: one at either end is put in or taken out without moving the
 //! others, and one elsewhere moves those of the shorter side. Where many texts of languages are set one
 //! after the other, a map leads to them.
-ghost use Rattle.std.specs.Prelude.{◌≡◌, ◌≤◌, ◌<◌, [], ◌∷◌, ◌++◌, length, insert, slice_get, slice_set, IfSome, OnOk};
+ghost use Rattle.std.specs.Prelude.{◌≡◌, ◌≤◌, [], ◌∷◌, ◌++◌, length, insert, slice_get, slice_set, IfSome, OnOk};
 ghost use Rattle.xmp_values.specs.Stops.{Gives, rule_of};
 ghost use Rattle.xmp_tree.specs.Parts.{simple};
 ghost use Rattle.xmp_tree.specs.Items.{item_put};
 ghost use Rattle.xmp_tree.specs.Places.{tag_place};
 ghost use Rattle.xmp_edit.specs.Actions.{said};
+ghost use Rattle.xmp_edit.specs.Languages.{Knows};
 
-use crate::changing;
-use crate::languages::{self, Languages, Spoken, known};
+use crate::changing::said_at;
+use crate::languages::{Languages, Spoken, known, said};
 use std::alloc::Global;
 use std::collections::VecDeque;
 use std::marker::Model;
 use std::mem;
-use xmp_tree::{Items, Members, Shape, Value};
+use xmp_tree::{Items, Members, Shape, Value, tag_place};
 use xmp_values::{Memory, RuleStop, Text};
 
-/// How many edits by `setlang` in a row are made by looking at each item, before a map is made.
-const FEW: u8 = 16;
+/// How many times as many items as there are `setlang` looks at, before a map is made.
+const LOOKS: usize = 16;
 
 /// Items that contracts see as their list.
 #[derive(Drop)]
@@ -130,8 +131,8 @@ impl<'p> ItemQueue<'p> {
         ItemQueue { items, languages }
     }
 
-    /// Items whose one of a language becomes a text, or with one more. The time grows as the logarithm
-    /// of their number where such an edit follows many others.
+    /// Items whose one of a language becomes a text, or with one more. Where many such edits come one
+    /// after the other, each takes the time of a search in a map.
     pub fn said(
         self,
         alloc: Global,
@@ -141,33 +142,54 @@ impl<'p> ItemQueue<'p> {
         ensures { Gives rule_of result (said tag.now text.now self.entry (tag_place tag.now self.entry)) }
     {
         let ItemQueue { items, languages } = self;
-        let items = Items::from_vec(items.into_vec());
-        match few(&languages) {
-            Some(count) => {
-                let items = changing::said(alloc, tag, text, items)?;
-                let languages = Languages::Unknown(count + 1);
-                let items = VecDeque::from_vec(items.into_vec());
-                Ok(ItemQueue { items, languages })
+        match languages {
+            // Once so many were looked at, a map costs no more than that did.
+            Languages::Unknown(looks) if looks / LOOKS <= items.len() => {
+                looked(alloc, tag, text, items, looks)
             }
-            None => {
-                let spoken = known(alloc, items, languages)?;
-                let Spoken { items, places } = languages::said(alloc, tag, text, spoken)?;
-                let languages = Languages::Known(places);
-                let items = VecDeque::from_vec(items.into_vec());
-                Ok(ItemQueue { items, languages })
-            }
+            languages => mapped(alloc, tag, text, items, languages),
         }
     }
 }
 
-/// How many edits by `setlang` came one after the other, where they are few.
-fn few(languages: &Languages) -> Option<u8>
-    ensures { IfSome result (λ count. count < 16) }
+/// Items with a text of a language that is looked for.
+fn looked<'p>(
+    alloc: Global,
+    tag: &Text<'_>,
+    text: &Text<'_>,
+    items: VecDeque<Value<'p>>,
+    looks: usize,
+) -> Result<ItemQueue<'p>, RuleStop>
+    ensures { Gives rule_of result (said tag.now text.now items.entry.items (tag_place tag.now items.entry.items)) }
 {
-    match languages {
-        Languages::Unknown(count) => { if *count < FEW { Some(*count) } else { None } }
-        Languages::Known(_) => None,
-    }
+    let items = Items::from_vec(items.into_vec());
+    let place = tag_place(items.as_slice(), tag.bytes());
+    let looks = looks.saturating_add(place.unwrap_or(items.len()));
+    let items = said_at(alloc, tag, text, items, place)?;
+    Ok(ItemQueue {
+        items: VecDeque::from_vec(items.into_vec()),
+        languages: Languages::Unknown(looks),
+    })
+}
+
+/// Items with a text of a language that is found through the map.
+fn mapped<'p>(
+    alloc: Global,
+    tag: &Text<'_>,
+    text: &Text<'_>,
+    items: VecDeque<Value<'p>>,
+    languages: Languages,
+) -> Result<ItemQueue<'p>, RuleStop>
+    requires known { Knows languages items.items }
+    ensures { Gives rule_of result (said tag.now text.now items.entry.items (tag_place tag.now items.entry.items)) }
+{
+    let items = Items::from_vec(items.into_vec());
+    let spoken = known(alloc, items, languages)?;
+    let Spoken { items, places } = said(alloc, tag, text, spoken)?;
+    Ok(ItemQueue {
+        items: VecDeque::from_vec(items.into_vec()),
+        languages: Languages::Known(places),
+    })
 }
 
 /// Moves a value in.
