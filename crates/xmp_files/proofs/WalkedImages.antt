@@ -167,19 +167,23 @@ packet_by file found e is = ap (option_map (λ (x : Entry). piece_at file x.valu
 pub length_piece : (file : List ℕ) (range : FileSpan) → range.start ≤ range.end → range.end ≤ length file → length (take (range.end - range.start) (drop range.start file)) ≡ range.end - range.start
 length_piece file range order within = length-take-le _ _ (omega (arith, length-drop range.start file, order, within))
 
-payload_spares : (size : ℕ) (tiff : Tiff) (packet : Option Piece) (piece : Piece) (place : ℕ) → packet ≡ Some piece → piece.at ≤ place → place < piece.at + length piece.bytes
-    → IsUnread (Directories size tiff) packet [] place → ⊥
-payload_spares size tiff None piece place is from before u = cc is
-payload_spares size tiff (Some other) piece place is from before u =
+payload_spares : (size : ℕ) (tiff : Tiff) (packet : Option Piece) (piece : Piece) (place : ℕ) → packet ≡ Some piece → length piece.bytes ≤ packet_limit → piece.at ≤ place
+    → place < piece.at + length piece.bytes → IsUnread (Directories size tiff) packet [] place → ⊥
+payload_spares size tiff None piece place is short from before u = cc is
+payload_spares size tiff (Some other) piece place is short from before u =
     let same : piece ≡ other = cc is in
-    u.2 (subst (λ (p : Piece). (p.at ≤ place) × (place < p.at + length p.bytes)) same (from, before))
+    let short_other : length other.bytes ≤ packet_limit = subst (λ (p : Piece). length p.bytes ≤ packet_limit) same short in
+    elim u.0 [
+      | inl picture ↦ picture.1 (subst (λ (p : Piece). (p.at ≤ place) × (place < p.at + length p.bytes)) same (from, before))
+      | inr overlong ↦ omega (arith, overlong.0, short_other)
+    ]
 
 module _ (need : Need) (t u : DeskState) (name : List ℕ) (tiff : Tiff) (e : Entry) (kind : Told t.files (λ files. IsImageKind (bytes_of files name)))
     (walked : Told t.files (λ files. IsTiff (bytes_of files name) tiff)) (first : first_entry 700 tiff.dirs ≡ Some e) where
-  -- reading the packet spares the pictures
-  pub packet_spares : e.value.start ≤ e.value.end → MovesInside name e.value.start (e.value.start + (e.value.end - e.value.start)) t.reads u.reads
+  -- reading a packet within its limit spares the pictures
+  pub packet_spares : e.value.start ≤ e.value.end → e.value.end - e.value.start ≤ packet_limit → MovesInside name e.value.start (e.value.start + (e.value.end - e.value.start)) t.reads u.reads
       → Told t.files (λ files. e.value.end ≤ length (bytes_of files name)) → Spared need t u name
-  packet_spares order moves lies files told reads read_told =
+  packet_spares order short moves lies files told reads read_told =
       let m = moves reads read_told in (
         m.0,
         m.1,
@@ -191,7 +195,7 @@ module _ (need : Need) (t u : DeskState) (name : List ℕ) (tiff : Tiff) (e : En
             let long = length_piece file e.value order (lies files told) in
             let i = m.2 k d h in
             subst (λ (y : Kept). Spares y (get_or m.0 k d)) (sym x.is)
-            (λ place past from before u. payload_spares (length file) x.tiff (tiff_packet file x.tiff) (piece_at file e.value) place packet (omega (arith, i.from_start, from)) (omega (arith, i.to_end, before, long, order)) u),
+            (λ place past from before u. payload_spares (length file) x.tiff (tiff_packet file x.tiff) (piece_at file e.value) place packet (omega (arith, long, short)) (omega (arith, i.from_start, from)) (omega (arith, i.to_end, before, long, order)) u),
       )
 
 -- The exits.
@@ -329,29 +333,29 @@ module _ (need : Need) (s t : DeskState) (name : List ℕ) (size : ℕ) (sized :
             (record { tiff = tiff; walked = call.told files told; is = ap (λ (o : Option Piece). image need (length file) tiff o) (sym (packet_told file)) })
             (ap (λ (k : ℕ). let r : Result Kept Fault = Err (over_packet k) in r) (sym same) ∙ over_limited kept (piece_at file e.value) (omega (arith, long, same)))))
 
-        module _ (u : DeskState) (result : Result (List ℕ) WindowStop) (read : WindowCall t u name e.value.start (e.value.end - e.value.start) result) where
+        module _ (short : e.value.end - e.value.start ≤ packet_limit) (u : DeskState) (result : Result (List ℕ) WindowStop) (read : WindowCall t u name e.value.start (e.value.end - e.value.start) result) where
           both_read : ReadKnown s u name
           both_read = known_trans s t u name reads (known_inside t u name e.value.start (e.value.start + (e.value.end - e.value.start)) read.calls)
 
           both_spare : Spared need s u name
           both_spare = spared_trans need s t u name call.calls.same.files spared
-              (packet_spares need t u name tiff e (λ files told. kind files (sym call.calls.same.files ∙ told)) (λ files told. call.told files (sym call.calls.same.files ∙ told)) first order read.calls.reads
+              (packet_spares need t u name tiff e (λ files told. kind files (sym call.calls.same.files ∙ told)) (λ files told. call.told files (sym call.calls.same.files ∙ told)) first order short read.calls.reads
               (λ files told. omega (arith, within, sized.whole files (sym call.calls.same.files ∙ told))))
 
         -- the packet is read, or not
-        pub read_failed : (u : DeskState) → WindowCall t u name e.value.start (e.value.end - e.value.start) (Err windows.Device) → SizedCall need s u name size (Err Device)
-        read_failed u read = sized_fails need s u name size sized (both_read u _ read) (both_spare u _ read)
+        pub read_failed : e.value.end - e.value.start ≤ packet_limit → (u : DeskState) → WindowCall t u name e.value.start (e.value.end - e.value.start) (Err windows.Device) → SizedCall need s u name size (Err Device)
+        read_failed short u read = sized_fails need s u name size sized (both_read short u _ read) (both_spare short u _ read)
             (rose_after s.faults t.faults u.faults call.calls.counts.faults (read.device refl))
 
-        pub read_wants : (u : DeskState) → WindowCall t u name e.value.start (e.value.end - e.value.start) (Err windows.Memory) → SizedCall need s u name size (Err Memory)
-        read_wants u read = sized_wants need s u name size sized (both_read u _ read) (both_spare u _ read) is_known_kind
+        pub read_wants : e.value.end - e.value.start ≤ packet_limit → (u : DeskState) → WindowCall t u name e.value.start (e.value.end - e.value.start) (Err windows.Memory) → SizedCall need s u name size (Err Memory)
+        read_wants short u read = sized_wants need s u name size sized (both_read short u _ read) (both_spare short u _ read) is_known_kind
 
         pub packet_kept : (u : DeskState) (bytes : List ℕ) (kept : Kept) → WindowCall t u name e.value.start (e.value.end - e.value.start) (Ok bytes) → e.value.end - e.value.start ≤ packet_limit
             → kept ≡ image need size tiff (Some (record { at = e.value.start; bytes = bytes })) → SizedCall need s u name size (Ok kept)
         packet_kept u bytes kept read short is =
             let packet : Option Piece = Some (record { at = e.value.start; bytes = bytes }) in
             let lies : PayloadLies size packet = (omega (arith, read.size, order, within), omega (arith, read.size, short)) in
-            sized_kept need s u name size sized (both_read u (Ok bytes) read) (both_spare u (Ok bytes) read) kept
+            sized_kept need s u name size sized (both_read short u (Ok bytes) read) (both_spare short u (Ok bytes) read) kept
             (λ files told.
             let file = bytes_of files name in
             let same : tiff_packet file tiff ≡ packet =

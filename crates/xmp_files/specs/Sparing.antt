@@ -1,5 +1,5 @@
 -- The bytes of a file that aren't read.
-use Rattle.std.specs.Prelude.{◌≡◌, ℕ, ◌+◌, ◌≤◌, ◌<◌, false, List, [], ◌++◌, length, slice_get, All, Contains, Option, None, Some, Ok}
+use Rattle.std.specs.Prelude.{◌≡◌, ℕ, ◌+◌, ◌≤◌, ◌<◌, ◌⊎◌, false, List, [], ◌++◌, length, slice_get, All, Contains, Option, None, Some, Ok}
 use Rattle.std.specs.Option.{unwrap_or}
 use Rattle.std.specs.FinMap.{get}
 use Rattle.xmp_base.specs.Device.{DeskState, Moved, Told}
@@ -29,13 +29,14 @@ IsInPayload (Some payload) place = (payload.at ≤ place) × (place < payload.at
 
 -- The places that aren't read. Of a JPEG file they are those of each region after what tells its kind, which is at most 75 bytes of
 -- its payload, and of the tail all after its marker. The main packet and the portions of its extended text alone are read. Of
--- a TIFF file they are those of a picture that no other named range has: the header, the directories, the values that stand apart from
--- their entries, and the packet.
+-- a TIFF file they are those of a picture or of a packet over its limit that no other named range has: the header, the directories,
+-- the values that stand apart from their entries, and a packet within its limit.
 abbrev pub IsUnread : Container → Option Piece → List FileSpan → ℕ → Type 0
 IsUnread Text payload portions place = IsOverlong payload place
 IsUnread (Segments regions) payload portions place =
     (i : ℕ) × (r : Region) × (slice_get regions i ≡ Some r) × (is_main r.kind ≡ false) × (near_end r ≤ place) × (place < r.range.end) × (Contains portions r.payload → ⊥)
-IsUnread (Directories size tiff) payload portions place = IsIn tiff.pictures place × (IsIn (others_in tiff.layout 700 tiff.dirs []) place → ⊥) × (IsInPayload payload place → ⊥)
+IsUnread (Directories size tiff) payload portions place =
+    ((IsIn tiff.pictures place × (IsInPayload payload place → ⊥)) ⊎ IsOverlong payload place) × (IsIn (others_in tiff.layout 700 tiff.dirs []) place → ⊥)
 
 -- a read covers no such place, but for the first 16 bytes of a file, which tell its kind
 abbrev pub Spares : Kept → Moved → Type 0

@@ -17,9 +17,10 @@ use xmp_values::{Fault, FileStop};
 
 /// What is kept of a file. Changes no file, and reads of no other name.
 ///
-/// Asks for the length, then reads the first 16 bytes, and then the payload. Of a file over its
-/// limit no byte is read, and of one that is refused by its kind, or for the length of its
-/// payload, none after these 16. No memory is taken before the kind is known.
+/// Asks for the length, then reads the first 16 bytes, then what a photograph is made up of, and
+/// then the packet. Of a file over its limit no byte is read, of one that is refused by its kind
+/// none after these 16, and of a packet over its limit none after them either. No memory is taken
+/// before the kind is known.
 ///
 /// # Errors
 /// `Absent` after a miss that the desk counted, `Device` after a failure that it counted, and the

@@ -40,7 +40,7 @@ pub fn image(alloc: Global, text: &str) -> Result<Vec<u8>, AllocError> {
 }
 
 /// The same of a BigTIFF file of 2,428 bytes, little-endian, without a picture.
-fn big_image(alloc: Global, text: &str) -> Result<Vec<u8>, AllocError> {
+pub fn big_image(alloc: Global, text: &str) -> Result<Vec<u8>, AllocError> {
     let mut file = Vec::from_slice(
         alloc,
         &[
@@ -121,5 +121,48 @@ fn broken_directories_are_refused(rt: HostRuntime) -> Result<(), Fail> {
     for (file, line) in cases {
         assert!(rt; tree_ends(alloc, file, "", line)?, "{line}");
     }
+    Ok(())
+}
+
+/// The line of the first `n` bytes of a file of 42 bytes with a strip.
+fn line_of(n: usize) -> &'static str {
+    match n {
+        0..=3 => "refused NotKnown file 0 0 0\n",
+        4..=7 => "refused ShortHeader file 0 0 0\n",
+        8..=37 => "refused DirectoryOut file 8 0 0\n",
+        38..=41 => "refused RegionOut file 10 0 0\n",
+        _ => "",
+    }
+}
+
+#[test]
+fn an_image_that_is_cut_off_is_refused(rt: HostRuntime) -> Result<(), Fail> {
+    let file = strip(8);
+    for n in 0..=42 {
+        let text = if n < 42 { "" } else { "about \n" };
+        let cut = file.get(..n).unwrap_or(b"");
+        assert!(rt; tree_ends(rt.alloc(), cut, text, line_of(n))?, "{n}");
+    }
+    Ok(())
+}
+
+/// A TIFF file of so many empty directories of 6 bytes, each of which names the next one.
+fn chain(alloc: Global, count: u16) -> Result<Vec<u8>, AllocError> {
+    let mut file = Vec::from_slice(alloc, b"MM\x00\x2A\x00\x00\x00\x08")?;
+    for i in 0..count {
+        let is_last = i as u32 + 1 == count as u32;
+        let next = if is_last { 0 } else { 14 + 6 * (i as u32) };
+        file.extend_from_slice(&[0, 0])?;
+        file.extend_from_slice(&next.to_be_bytes())?;
+    }
+    Ok(file)
+}
+
+#[test]
+fn a_long_chain_of_directories_is_refused(rt: HostRuntime) -> Result<(), Fail> {
+    let alloc = rt.alloc();
+    assert!(rt; tree_ends(alloc, chain(alloc, 1000)?.as_slice(), "about \n", "")?);
+    let line = "refused TooManyDirectories file 6008 0 0\n";
+    assert!(rt; tree_ends(alloc, chain(alloc, 1001)?.as_slice(), "", line)?);
     Ok(())
 }

@@ -1,5 +1,5 @@
 //! Files that are loaded from devices, and those that are refused.
-use std::alloc::Global;
+use std::alloc::{AllocError, Global};
 use std::test::Fail;
 use xmp_base::{MemoryDesk, SparseDesk};
 use xmp_files::{Held, LoadStop, Need, load};
@@ -109,5 +109,46 @@ fn failures_of_the_desk(rt: HostRuntime) -> Result<(), Fail> {
         );
     }
     assert_eq!(rt; stop_of(alloc, file, 10)?, None);
+    Ok(())
+}
+
+/// A TIFF file whose one entry, of this tag, tells a value of this many bytes behind the directory.
+fn with_value(alloc: Global, tag: u16, count: u32) -> Result<Vec<u8>, AllocError> {
+    let mut file = Vec::from_slice(alloc, b"MM\x00\x2A\x00\x00\x00\x08\x00\x01")?;
+    file.extend_from_slice(&tag.to_be_bytes())?;
+    file.extend_from_slice(b"\x00\x01")?;
+    file.extend_from_slice(&count.to_be_bytes())?;
+    file.extend_from_slice(b"\x00\x00\x00\x1A\x00\x00\x00\x00")?;
+    file.resize(26 + count as usize, 0)?;
+    Ok(file)
+}
+
+/// How many calls a desk meets while a file of these bytes is loaded.
+fn calls_of(alloc: Global, bytes: &[u8]) -> Result<Option<u64>, Memory> {
+    for call in 1..200 {
+        if stop_of(alloc, bytes, call)? != Some(LoadStop::Device) {
+            return Ok(Some(call - 1));
+        }
+    }
+    Ok(None)
+}
+
+/// A file whose packet is over its limit meets as many calls as one without a packet, whose value isn't read.
+#[test]
+fn a_packet_over_its_limit_is_not_read(rt: HostRuntime) -> Result<(), Fail> {
+    let alloc = rt.alloc();
+    let other = with_value(alloc, 701, 64)?;
+    assert_eq!(rt; stop_of(alloc, other.as_slice(), 0)?, None);
+    let calls = calls_of(alloc, other.as_slice())?.unwrap_or(0);
+    let limit = 16_777_216;
+    let long = with_value(alloc, 700, limit + 1)?;
+    assert_eq!(rt;
+        stop_of(alloc, long.as_slice(), calls)?,
+        Some(LoadStop::Device)
+    );
+    assert_eq!(rt;
+        stop_of(alloc, long.as_slice(), calls.saturating_add(1))?,
+        refused(Rule::XmpLimit, Part::Main, limit as u64 + 1, limit as u64)
+    );
     Ok(())
 }

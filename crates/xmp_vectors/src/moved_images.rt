@@ -1,7 +1,7 @@
 //! TIFF and BigTIFF files whose packet is put at their end (TIFF 6.0, section 2; XMP Specification Part 3, TIFF).
 use crate::PHOTO;
 use crate::editing::packet;
-use crate::images::{image, strip};
+use crate::images::{big_image, image, strip};
 use crate::relocated::{all_failures_told, is_file, with_letters};
 use crate::runs::{Edited, SOUND, run_edit, run_length, run_moving};
 use std::alloc::{AllocError, Global};
@@ -77,6 +77,55 @@ fn an_entry_tells_the_new_packet(rt: HostRuntime) -> Result<(), Fail> {
     Ok(())
 }
 
+/// After an odd length stands a zero byte, and the entry tells the place behind it.
+#[test]
+fn a_new_packet_begins_at_an_even_place(rt: HostRuntime) -> Result<(), Fail> {
+    let alloc = rt.alloc();
+    let mut file = image(alloc, PHOTO)?;
+    file.push(7)?;
+    let script = with_letters(alloc, b"set dc:source ", 3000)?;
+    let ran = run_edit(alloc, &APPLY, &file, script.as_slice(), SOUND)?;
+    assert!(rt; ran.ended("relocated 2461 7862\n", ""));
+    let out = ran.out().unwrap_or(b"");
+    assert!(rt; out.get(..72) == file.get(..72) && out.get(80..2461) == file.get(80..2461));
+    assert!(rt;
+        is_file(
+            ran.out(),
+            b"MM",
+            7862,
+            72,
+            b"\x00\x00\x15\x18\x00\x00\x09\x9E"
+        )
+    );
+    assert!(rt; is_file(ran.out(), b"MM", 7862, 2460, b"\x07\x00<?xpacket begin="));
+    assert!(rt; ran.shows(alloc, "dc:format text image/jpeg\ndc:source text aaa")?);
+    Ok(())
+}
+
+/// In a BigTIFF file the count and the offset have 8 bytes each, which begin with the least in a little-endian file.
+#[test]
+fn a_big_entry_tells_the_new_packet(rt: HostRuntime) -> Result<(), Fail> {
+    let alloc = rt.alloc();
+    let file = big_image(alloc, PHOTO)?;
+    let script = with_letters(alloc, b"set dc:source ", 3000)?;
+    let ran = run_edit(alloc, &APPLY, &file, script.as_slice(), SOUND)?;
+    assert!(rt; ran.ended("relocated 2428 7828\n", ""));
+    let out = ran.out().unwrap_or(b"");
+    assert!(rt; out.get(..28) == file.get(..28) && out.get(44..2428) == file.get(44..2428));
+    assert!(rt;
+        is_file(
+            ran.out(),
+            b"II\x2B",
+            7828,
+            28,
+            b"\x18\x15\x00\x00\x00\x00\x00\x00\x7C\x09\x00\x00\x00\x00\x00\x00"
+        )
+    );
+    assert!(rt; is_file(ran.out(), b"II\x2B", 7828, 2428, b"<?xpacket begin="));
+    assert!(rt; ran.shows(alloc, "dc:format text image/jpeg\ndc:source text aaa")?);
+    Ok(())
+}
+
 /// Tags ascend: the new entry stands before one of a greater tag.
 const COPYRIGHT: &[u8] = b"II\x2A\x00\x08\x00\x00\x00\
     \x02\x00\
@@ -141,12 +190,28 @@ fn full_directory(alloc: Global) -> Result<Vec<u8>, AllocError> {
     Ok(file)
 }
 
+/// The same of a BigTIFF file, whose count of entries could tell more.
+fn full_big_directory(alloc: Global) -> Result<Vec<u8>, AllocError> {
+    let mut file = Vec::from_slice(
+        alloc,
+        b"MM\x00\x2B\x00\x08\x00\x00\x00\x00\x00\x00\x00\x00\x00\x10\x00\x00\x00\x00\x00\x00\xFF\xFF",
+    )?;
+    for _ in 0..65_535 {
+        file.extend_from_slice(
+            b"\x01\x00\x00\x01\x00\x00\x00\x00\x00\x00\x00\x01\x00\x00\x00\x00\x00\x00\x00\x00",
+        )?;
+    }
+    file.extend_from_slice(b"\x00\x00\x00\x00\x00\x00\x00\x00")?;
+    Ok(file)
+}
+
 #[test]
 fn a_directory_without_room_is_refused(rt: HostRuntime) -> Result<(), Fail> {
     let alloc = rt.alloc();
-    let file = full_directory(alloc)?;
-    let ran = run_moving(alloc, &SET, file.as_slice(), b"", SOUND, 65_536)?;
-    assert!(rt; ran.ended("", "refused TiffLimit file 0 65536 65535\n") && ran.wrote_none());
+    for file in [full_directory(alloc)?, full_big_directory(alloc)?] {
+        let ran = run_moving(alloc, &SET, file.as_slice(), b"", SOUND, 65_536)?;
+        assert!(rt; ran.ended("", "refused TiffLimit file 0 65536 65535\n") && ran.wrote_none());
+    }
     Ok(())
 }
 

@@ -52,7 +52,7 @@ returns-in-Err-Device g c =
     c.in-Ok.dirs c.in-Ok.ensures.call c.in-Some.entry (sym c.first_tag.ensures ∙ c.in-Some.is) (sym c.lies_in.ensures ∙ c.if-not-lies_in.false) in
     record {
       call = read_failed c.args.need (g.D.Desk.state c.args.desk.now) (g.D.Desk.state c.walk_known.new.desk) c.args.name.now c.args.size (record { len = c.requires.len; whole = c.requires.told }) c.requires.kind
-          c.in-Ok.dirs c.in-Ok.ensures.call c.in-Some.entry (sym c.first_tag.ensures ∙ c.in-Some.is) lies.0 lies.1 (g.D.Desk.state c.window.new.desk)
+          c.in-Ok.dirs c.in-Ok.ensures.call c.in-Some.entry (sym c.first_tag.ensures ∙ c.in-Some.is) lies.0 lies.1 c.if-len-gt-PACKET_LIMIT.false (g.D.Desk.state c.window.new.desk)
           (subst (λ (w : WindowStop). WindowCall (g.D.Desk.state c.walk_known.new.desk) (g.D.Desk.state c.window.new.desk) c.args.name.now c.in-Some.entry.value.start
           (c.in-Some.entry.value.end - c.in-Some.entry.value.start) (Err w)) c.in-Err-Device.field-0-is c.in-Err-Device.ensures.call);
     }
@@ -63,7 +63,7 @@ returns g c =
     c.in-Ok.dirs c.in-Ok.ensures.call c.in-Some.entry (sym c.first_tag.ensures ∙ c.in-Some.is) (sym c.lies_in.ensures ∙ c.if-not-lies_in.false) in
     record {
       call = read_wants c.args.need (g.D.Desk.state c.args.desk.now) (g.D.Desk.state c.walk_known.new.desk) c.args.name.now c.args.size (record { len = c.requires.len; whole = c.requires.told }) c.requires.kind
-          c.in-Ok.dirs c.in-Ok.ensures.call c.in-Some.entry (sym c.first_tag.ensures ∙ c.in-Some.is) lies.0 lies.1 (g.D.Desk.state c.window.new.desk)
+          c.in-Ok.dirs c.in-Ok.ensures.call c.in-Some.entry (sym c.first_tag.ensures ∙ c.in-Some.is) lies.0 lies.1 c.if-len-gt-PACKET_LIMIT.false (g.D.Desk.state c.window.new.desk)
           (subst (λ (w : WindowStop). WindowCall (g.D.Desk.state c.walk_known.new.desk) (g.D.Desk.state c.window.new.desk) c.args.name.now c.in-Some.entry.value.start
           (c.in-Some.entry.value.end - c.in-Some.entry.value.start) (Err w)) c.in-Err-Memory.field-0-is c.in-Err-Memory.ensures.call);
     }
