@@ -8,13 +8,13 @@ use Rattle.xmp_base.specs.Windows.{MovesInside}
 use Rattle.xmp_base.specs.declared.device.Failed.{Failed}
 use Rattle.xmp_base.proofs.Calls.{rose_after}
 use Rattle.xmp_base.proofs.Names.{get-insert_same}
-use Rattle.packet_exchange.specs.Closing.{Left as LeftOf, Closed, ExchangeCall}
+use Rattle.packet_exchange.specs.Closing.{Left as LeftOf, Closed, ExchangeWrites, ExchangeCall}
 use Rattle.xmp_files.specs.declared.opening.Opened.{Opened}
 use Rattle.xmp_files.specs.declared.held.Need.TheVariants.{Packet}
 use Rattle.xmp_files.specs.Keeping.{Piece, Kept}
 use Rattle.xmp_files.specs.Loading.{IsLoaded}
 use Rattle.xmp_files.specs.Opening.{IsOpened, HoldsTree, IsWhole}
-use Rattle.xmp_files.specs.Patching.{FileIsPatched, PatchCall}
+use Rattle.xmp_files.specs.Patching.{FileIsPatched, PatchCall, new_payload}
 use Rattle.xmp_files.specs.Planning.{Edited, Plan, Same, Agree, planned_file}
 use Rattle.xmp_files.specs.Planneds.{bytes_in}
 use Rattle.xmp_files.specs.Plans.{packet_of}
@@ -102,6 +102,11 @@ module _ (file script : List ℕ) (s t u : DeskState) (same : SameFiles s t) (be
           of_kept = x.there;
           wrote = subst (λ (w : Option (List Moved)). MovesInside file x.old.at (x.old.at + length x.old.bytes) w u.wrote) same.wrote
               (subst (λ (n : ℕ). MovesInside file x.old.at (x.old.at + n) t.wrote u.wrote) x.as_long call.payload.wrote);
+          new = new;
+          exchanges = ap new_payload x.is;
+          writes = subst (λ (w : Option (List Moved)). ExchangeWrites file x.old.at x.old.bytes new w u.wrote) same.wrote
+              (subst (λ (l : List ℕ). ExchangeWrites file x.old.at l new t.wrote u.wrote) (ap bytes_in x.there) call.writes);
+          idle = λ stays. ap (λ (d : DeskState). d.wrote) (call.idle (ap bytes_in x.there ∙ stays)) ∙ same.wrote;
           agrees = subst (λ (l : List ℕ). Agree bytes l (x.old ∷ [])) (sym (ap (λ (o : Option (List ℕ)). unwrap_or o []) stands))
               (put_agrees bytes x.old.at y.now (omega (arith, within, y.as_long)) x.old refl (sym y.as_long));
           whole = subst (λ (f : Option (List ℕ)). IsWhole r.edited.old r.edited.new f) (sym stands)

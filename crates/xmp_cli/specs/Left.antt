@@ -3,8 +3,10 @@ use Rattle.std.specs.Prelude.{◌≡◌, ◌⊎◌, ℕ, ◌+◌, List, [], ◌�
 use Rattle.std.specs.FinMap.{get}
 use Rattle.xmp_base.specs.Device.{DeskState, SinkState, Files, Rose, SameFiles, bytes_of}
 use Rattle.xmp_base.specs.Windows.{MovesInside, PartOf}
+use Rattle.packet_exchange.specs.Closing.{ExchangeWrites}
 use Rattle.xmp_files.specs.Keeping.{Piece, Kept}
 use Rattle.xmp_files.specs.Opening.{HoldsTree, IsWhole}
+use Rattle.xmp_files.specs.Patching.{new_payload}
 use Rattle.xmp_files.specs.Planning.{Edited, Plan, Agree, Frame}
 use Rattle.xmp_files.specs.Plans.{Apart, NoStray}
 use Rattle.xmp_cli.specs.Commands.{Command, Patch}
@@ -33,8 +35,8 @@ pub record AfterFailure (files : Files) (outcome : Outcome) (s t : DeskState) (o
   pub left : Left files outcome.change s t
   pub order : ((p.sent ≡ o.sent) × Rose s.faults t.faults) ⊎ (t.files ≡ Some (changed files outcome.change))
 
--- FILE was patched, or is being patched: it differs in its payload alone, all that was written lies there, and it is read as the
--- old tree or as the new one, or it is refused.
+-- FILE was patched, or is being patched, by a plan that exchanges its packet: it differs in its payload alone, all that was written lies
+-- there, in the first byte or from the first difference on, and it is read as the old tree or as the new one, or it is refused.
 pub record InPatch (command : Command) (file : List ℕ) (files now : Files) (s t : DeskState) : Type 0 where
   pub kept : Kept
   pub edited : Edited
@@ -42,7 +44,12 @@ pub record InPatch (command : Command) (file : List ℕ) (files now : Files) (s 
   pub plans : Plans command files kept edited plan
   pub payload : Piece
   pub of_kept : kept.payload ≡ Some payload
+  pub new : List ℕ
+  pub exchanges : new_payload plan ≡ Some new
   pub wrote : MovesInside file payload.at (payload.at + length payload.bytes) s.wrote t.wrote
+  pub writes : ExchangeWrites file payload.at payload.bytes new s.wrote t.wrote
+  -- a payload that stays isn't written
+  pub idle : payload.bytes ≡ new → t.wrote ≡ s.wrote
   pub agrees : Agree (bytes_of files file) (bytes_of now file) (payload ∷ [])
   pub whole : IsWhole edited.old edited.new (get now file)
 
