@@ -11,3 +11,4 @@ pub mod NewHints
 pub mod Utf8Scripts
 pub mod SlotLemmas
 pub mod Apart
+pub mod Fronts
