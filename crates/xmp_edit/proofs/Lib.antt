@@ -12,3 +12,4 @@ pub mod Utf8Scripts
 pub mod SlotLemmas
 pub mod Apart
 pub mod LanguageLemmas
+pub mod Fronts

@@ -42,10 +42,10 @@ present-push (None ∷ ss) s = present-push ss s
 present-push (Some x ∷ ss) s = ap (λ (ms : List Member). x ∷ ms) (present-push ss s)
 
 -- Positions, from the front.
-position-here : {X : Type 0} (p : X → Bool) (x : X) (xs : List X) → p x ≡ true → position p (x ∷ xs) ≡ Some 0
+pub position-here : {X : Type 0} (p : X → Bool) (x : X) (xs : List X) → p x ≡ true → position p (x ∷ xs) ≡ Some 0
 position-here p x xs here = grind (arith, nat_tests)
 
-position-next : {X : Type 0} (p : X → Bool) (x : X) (xs : List X) → p x ≡ false → position p (x ∷ xs) ≡ option_map (λ i. suc i) (position p xs)
+pub position-next : {X : Type 0} (p : X → Bool) (x : X) (xs : List X) → p x ≡ false → position p (x ∷ xs) ≡ option_map (λ i. suc i) (position p xs)
 position-next p x xs next = grind (arith, nat_tests)
 
 -- a slot, and the place of its member among those that are there

@@ -1,21 +1,23 @@
 //! The fields of a structure and the qualifiers of a value while edits are made: they are found by
 //! scans at first, and through a map once many edits were made of them.
-ghost use Rattle.std.specs.Prelude.{◌≡◌, ◌&&◌, not, false, is_some, IfOk};
+ghost use Rattle.std.specs.Prelude.{◌≡◌, ◌&&◌, ◌∷◌, ◌++◌, not, false, Some, is_some, option_to_list, IfOk};
 ghost use Rattle.xmp_values.specs.Stops.{Gives, rule_of};
-ghost use Rattle.xmp_tree.specs.Places.{place_of};
+ghost use Rattle.xmp_tree.specs.Places.{same_name, place_of};
+ghost use Rattle.xmp_tree.specs.Wf.{name_of};
 ghost use Rattle.xmp_paths.specs.Paths.{is_end};
 ghost use Rattle.xmp_edit.specs.Actions.{change_of, makes};
-ghost use Rattle.xmp_edit.specs.Edits.{at_place, in_members};
-ghost use Rattle.xmp_edit.specs.HeldMembers.{listed, lists_in};
+ghost use Rattle.xmp_edit.specs.Edits.{ok_map, at_place, in_members, member_at};
+ghost use Rattle.xmp_edit.specs.HeldMembers.{listed, lists_in, first_made};
 
 use crate::action::Action;
 use crate::fields::Fields;
-use crate::places::in_members;
+use crate::places::{at_place, in_members};
+use crate::slots::makes_there;
 use std::alloc::Global;
 use std::marker::Model;
 use xmp_paths::Step;
-use xmp_tree::Members;
-use xmp_values::{Memory, Name, RuleStop, names_differ};
+use xmp_tree::{Member, Members, copy_name, join};
+use xmp_values::{Memory, Name, Rule, RuleStop, names_differ};
 
 /// How many edits are made by scans, before a map is made.
 const FEW: u8 = 16;
@@ -25,8 +27,9 @@ const FEW: u8 = 16;
 pub enum Found<'p> {
     /// By scans, which so many edits took.
     Scanned(Members<'p>, u8),
-    /// Through a map.
-    Mapped(Fields<'p>),
+    /// Through a map. One that an edit put in front of the others, `xml:lang`, stands by itself, since it
+    /// would move the slots of all.
+    Mapped(Option<Member<'p>>, Fields<'p>),
 }
 
 /// Members. To contracts they are their list.
@@ -63,7 +66,7 @@ impl<'p> HeldMembers<'p> {
         let HeldMembers { found } = self;
         match found {
             Found::Scanned(members, _) => Ok(members),
-            Found::Mapped(fields) => fields.into_members(alloc),
+            Found::Mapped(first, fields) => with_first(alloc, first, fields),
         }
     }
 
@@ -85,7 +88,9 @@ impl<'p> HeldMembers<'p> {
                 let members = in_members(alloc, rest, action, front, name, members)?;
                 Found::Scanned(members, edits)
             }
-            Found::Mapped(fields) => in_mapped(alloc, front, name, rest, action, fields)?,
+            Found::Mapped(first, fields) => {
+                in_mapped(alloc, front, name, rest, action, first, fields)?
+            }
         };
         Ok(HeldMembers { found })
     }
@@ -103,7 +108,7 @@ fn opened<'p>(alloc: Global, found: Found<'p>) -> Result<Found<'p>, Memory>
                 mapped(alloc, members)
             }
         }
-        Found::Mapped(fields) => Ok(Found::Mapped(fields)),
+        Found::Mapped(first, fields) => Ok(Found::Mapped(first, fields)),
     }
 }
 
@@ -113,32 +118,35 @@ fn mapped<'p>(alloc: Global, members: Members<'p>) -> Result<Found<'p>, Memory>
 {
     // The names of a tree differ, which no clause tells here.
     if names_differ(alloc, members.as_slice())? {
-        Ok(Found::Mapped(Fields::of(alloc, members)?))
+        Ok(Found::Mapped(None, Fields::of(alloc, members)?))
     } else {
         Ok(Found::Scanned(members, 0))
     }
 }
 
-/// Members that have a map after an edit. One that goes to the front would move the slots of all, so the
-/// map is dropped: it is `xml:lang`, of which a value has one.
-fn in_mapped<'p>(
+/// The members after the first, if there is one.
+fn with_first<'p>(
     alloc: Global,
-    front: bool,
-    name: &Name<'_>,
-    rest: &[Step],
-    action: &Action,
+    first: Option<Member<'p>>,
     fields: Fields<'p>,
-) -> Result<Found<'p>, RuleStop>
-    ensures { Gives rule_of (lists_in result) (in_members (at_place rest.now (change_of action.now) (makes action.now)) (makes action.now && is_end rest.now) front name.now fields.entry) }
+) -> Result<Members<'p>, Memory>
+    ensures { IfOk result (λ ms. ms ≡ option_to_list first.entry ++ fields.entry) }
 {
-    if moves(alloc, front, name, &fields)? {
-        let members = fields.into_members(alloc)?;
-        let members = in_members(alloc, rest, action, front, name, members)?;
-        Ok(Found::Scanned(members, 0))
-    } else {
-        let fields = fields.edited(alloc, name, rest, action)?;
-        Ok(Found::Mapped(fields))
+    let mut members = fields.into_members(alloc)?;
+    match first {
+        Some(member) => {
+            join(true, &mut members, member)?;
+            Ok(members)
+        }
+        None => Ok(members),
     }
+}
+
+/// Whether the member has the name.
+fn has_name(member: &Member<'_>, name: &Name<'_>) -> bool
+    ensures { result ≡ same_name (name_of member.now) name.now }
+{
+    member.name.same_name(name)
 }
 
 /// Whether a member of the name would be a new one in front of these.
@@ -149,5 +157,138 @@ fn moves(alloc: Global, front: bool, name: &Name<'_>, fields: &Fields<'_>) -> Re
         Ok(!fields.has(alloc, name)?)
     } else {
         Ok(false)
+    }
+}
+
+/// Members that have a map after an edit.
+fn in_mapped<'p>(
+    alloc: Global,
+    front: bool,
+    name: &Name<'_>,
+    rest: &[Step],
+    action: &Action,
+    first: Option<Member<'p>>,
+    fields: Fields<'p>,
+) -> Result<Found<'p>, RuleStop>
+    ensures { Gives rule_of (lists_in result) (in_members (at_place rest.now (change_of action.now) (makes action.now)) (makes action.now && is_end rest.now) front name.now (option_to_list first.entry ++ fields.entry)) }
+{
+    match first {
+        Some(member) => {
+            if has_name(&member, name) {
+                in_first(alloc, rest, action, member, fields)
+            } else {
+                past_first(alloc, front, name, rest, action, member, fields)
+            }
+        }
+        None => with_no_first(alloc, front, name, rest, action, fields),
+    }
+}
+
+/// Members after an edit after the first.
+fn in_first<'p>(
+    alloc: Global,
+    rest: &[Step],
+    action: &Action,
+    member: Member<'p>,
+    fields: Fields<'p>,
+) -> Result<Found<'p>, RuleStop>
+    ensures { Gives rule_of (lists_in result) (member_at (at_place rest.now (change_of action.now) (makes action.now)) (member.entry ∷ fields.entry) 0 (Some member.entry)) }
+{
+    let Member { name, value } = member;
+    match at_place(alloc, rest, action, Some(value))? {
+        Some(value) => Ok(Found::Mapped(Some(Member { name, value }), fields)),
+        None => Ok(Found::Mapped(None, fields)),
+    }
+}
+
+/// Members after an edit at a name that the first doesn't have. Two that go to the front have one name,
+/// which no clause tells here.
+fn past_first<'p>(
+    alloc: Global,
+    front: bool,
+    name: &Name<'_>,
+    rest: &[Step],
+    action: &Action,
+    member: Member<'p>,
+    fields: Fields<'p>,
+) -> Result<Found<'p>, RuleStop>
+    requires { same_name (name_of member) name.now ≡ false }
+    ensures { Gives rule_of (lists_in result) (in_members (at_place rest.now (change_of action.now) (makes action.now)) (makes action.now && is_end rest.now) front name.now (member.entry ∷ fields.entry)) }
+{
+    if moves(alloc, front, name, &fields)? {
+        let members = with_first(alloc, Some(member), fields)?;
+        let members = in_members(alloc, rest, action, front, name, members)?;
+        Ok(Found::Scanned(members, 0))
+    } else {
+        behind_first(alloc, name, rest, action, member, fields)
+    }
+}
+
+/// Members after an edit behind the first.
+fn behind_first<'p>(
+    alloc: Global,
+    name: &Name<'_>,
+    rest: &[Step],
+    action: &Action,
+    member: Member<'p>,
+    fields: Fields<'p>,
+) -> Result<Found<'p>, RuleStop>
+    ensures { Gives rule_of (lists_in result) (ok_map (λ ms. member.entry ∷ ms) (in_members (at_place rest.now (change_of action.now) (makes action.now)) (makes action.now && is_end rest.now) false name.now fields.entry)) }
+{
+    let fields = fields.edited(alloc, name, rest, action)?;
+    Ok(Found::Mapped(Some(member), fields))
+}
+
+/// Members after an edit, where none stands before those of the map.
+fn with_no_first<'p>(
+    alloc: Global,
+    front: bool,
+    name: &Name<'_>,
+    rest: &[Step],
+    action: &Action,
+    fields: Fields<'p>,
+) -> Result<Found<'p>, RuleStop>
+    ensures { Gives rule_of (lists_in result) (in_members (at_place rest.now (change_of action.now) (makes action.now)) (makes action.now && is_end rest.now) front name.now fields.entry) }
+{
+    if moves(alloc, front, name, &fields)? {
+        new_first(alloc, name, rest, action, fields)
+    } else {
+        let fields = fields.edited(alloc, name, rest, action)?;
+        Ok(Found::Mapped(None, fields))
+    }
+}
+
+/// Members with a new one in front, if the edit gives one.
+fn new_first<'p>(
+    alloc: Global,
+    name: &Name<'_>,
+    rest: &[Step],
+    action: &Action,
+    fields: Fields<'p>,
+) -> Result<Found<'p>, RuleStop>
+    ensures { Gives rule_of (lists_in result) (ok_map (λ first. option_to_list first ++ fields.entry) (first_made (at_place rest.now (change_of action.now) (makes action.now)) (makes action.now && is_end rest.now) name.now)) }
+{
+    let first = first_made(alloc, name, rest, action)?;
+    Ok(Found::Mapped(first, fields))
+}
+
+/// A new member, if the edit gives one.
+fn first_made<'p>(
+    alloc: Global,
+    name: &Name<'_>,
+    rest: &[Step],
+    action: &Action,
+) -> Result<Option<Member<'p>>, RuleStop>
+    ensures { Gives rule_of result (first_made (at_place rest.now (change_of action.now) (makes action.now)) (makes action.now && is_end rest.now) name.now) }
+{
+    if !makes_there(action, rest) {
+        return Err(RuleStop::Fault(Rule::NoSuchPlace));
+    }
+    match at_place(alloc, rest, action, None)? {
+        Some(value) => {
+            let name = copy_name(alloc, name)?;
+            Ok(Some(Member { name, value }))
+        }
+        None => Ok(None),
     }
 }
