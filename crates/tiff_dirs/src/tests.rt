@@ -112,6 +112,32 @@ fn one_strip(alloc: Global, form: (bool, bool)) -> Result<Vec<u8>, AllocError>
     body.file(alloc)
 }
 
+/// A directory with two strips and two tiles, whose tables stand apart from it, in five numbers. The
+/// strips' offsets are the second and the third, and their lengths begin with the third. The tiles'
+/// offsets are the first and the second, and their lengths the last two.
+fn meeting_tables(alloc: Global, form: (bool, bool)) -> Result<Vec<u8>, AllocError>
+    ensures { IfOk result (λ file. BeginsTiff file.items) }
+{
+    let (wide, _) = form;
+    let (first, tables, word, long) = if wide {
+        (16, 120, 8, 16)
+    } else {
+        (8, 64, 4, 4)
+    };
+    let mut body = Body::new(alloc, form, first)?;
+    body.count(4)?;
+    body.entry(273, long, 2, tables + word)?;
+    body.entry(279, long, 2, tables + 2 * word)?;
+    body.entry(324, long, 2, tables)?;
+    body.entry(325, long, 2, tables + 3 * word)?;
+    body.word(0)?;
+    body.count(0)?;
+    for number in [10, 20, 3, 4, 5] {
+        body.word(number)?;
+    }
+    body.file(alloc)
+}
+
 /// Five directories that don't stand in the order in which they are reached: the first names two by
 /// SubIFDs, one by Exif, and the next. It has a strip of four bytes and one of none.
 pub fn branches(alloc: Global, form: (bool, bool)) -> Result<Vec<u8>, AllocError>
@@ -490,6 +516,21 @@ fn pictures_past_an_empty_one(rt: HostRuntime) -> Result<(), Fail> {
         assert_eq!(rt; dirs.pictures(), 3);
         for i in 0..3 {
             let (start, end) = places[i];
+            assert_eq!(rt; dirs.picture(i), FileSpan { start, end });
+        }
+    }
+    Ok(())
+}
+
+#[test]
+fn tables_that_meet(rt: HostRuntime) -> Result<(), Fail> {
+    let ranges = [(20, 23), (3, 7), (10, 14), (20, 25)];
+    for form in FORMS {
+        let file = meeting_tables(rt.alloc(), form)?;
+        let dirs = Dirs::walk(rt.alloc(), file.as_slice())?;
+        assert_eq!(rt; dirs.pictures(), 4);
+        for i in 0..4 {
+            let (start, end) = ranges[i];
             assert_eq!(rt; dirs.picture(i), FileSpan { start, end });
         }
     }
