@@ -31,8 +31,6 @@ mod made_trees;
 #[cfg(test)]
 mod moved_images;
 #[cfg(test)]
-mod patched_images;
-#[cfg(test)]
 mod patching;
 #[cfg(test)]
 mod photographs;

@@ -1,4 +1,4 @@
-//! Runs of `patch`: the report, the line on `err`, what is written, and each failure in its turn; over a sidecar here.
+//! Runs of `patch` over a sidecar: the report, the line on `err`, what is written, and each failure in its turn.
 use crate::PHOTO;
 use crate::editing::{TIFF, packet};
 use crate::runs::{Ran, run_over, sink_of, words_of};
@@ -14,21 +14,7 @@ const LENGTH: u64 = 328;
 /// The first place at which that of `TIFF` differs from it.
 const FROM: u64 = 249;
 
-/// The bytes from there on, which are written one by one.
-pub const INSIDE: u64 = LENGTH - FROM;
-
-pub const SET_TIFF: &str = "set dc:format image/tiff";
-
-/// A file of these bytes, what `patch` makes of it with `SET_TIFF`, and where its packet stands. Its report, and
-/// the line of `tree` where the packet is closed.
-#[derive(Clone, Copy)]
-pub struct Case<'t> {
-    pub old: &'t [u8],
-    pub new: &'t [u8],
-    pub at: u64,
-    pub report: &'t str,
-    pub closed: &'t str,
-}
+const SET_TIFF: &str = "set dc:format image/tiff";
 
 /// How a run of `patch` over `a.xmp` ended, and what it left.
 #[derive(Drop)]
@@ -51,79 +37,42 @@ impl Patched {
         self.desk.wrote_at(0).is_none()
     }
 
-    /// How many bytes were written from the first difference on, one after another, of a packet that stands at this
-    /// place. None where the first or the last write isn't of its first byte, or another write is among them.
-    fn writes(&self, at: u64) -> Option<u64> {
-        if self.desk.wrote_at(0) != Some((at, 1)) {
+    /// How many bytes were written from the first difference on, one after another. None where the first or
+    /// the last write isn't of the first byte, or another write is among them.
+    fn writes(&self) -> Option<u64> {
+        let Some((0, 1)) = self.desk.wrote_at(0) else {
             return None;
+        };
+        for inside in 0..200 {
+            match self.desk.wrote_at(inside + 1) {
+                Some((0, 1)) => {
+                    let is_last = self.desk.wrote_at(inside + 2).is_none();
+                    return if is_last { Some(inside as u64) } else { None };
+                }
+                Some((at, 1)) if at == FROM + inside as u64 => {}
+                _ => return None,
+            }
         }
-        let mut inside: usize = 0;
-        while inside < 200
-            && self.desk.wrote_at(inside + 1) == Some((at + FROM + inside as u64, 1))
-        {
-            inside += 1;
-        }
-        let is_last = self.desk.wrote_at(inside + 1) == Some((at, 1))
-            && self.desk.wrote_at(inside + 2).is_none();
-        if is_last { Some(inside as u64) } else { None }
-    }
-}
-
-impl Case<'_> {
-    /// How many bytes are written from the first difference on, where no call fails and all is as it must be.
-    pub fn written(&self, alloc: Global) -> Result<Option<u64>, Memory> {
-        let ran = patch(alloc, self.old, SET_TIFF, 0)?;
-        if ran.ended(self.report, "") && ran.file() == self.new {
-            Ok(ran.writes(self.at))
-        } else {
-            Ok(None)
-        }
+        None
     }
 
-    /// Whether a space stands in the packet's first byte, after it the new bytes up to some place, and all other
-    /// bytes are the old ones.
-    fn has_closed(&self, now: &[u8]) -> bool {
-        let first = self.at as usize;
-        let rest = first + 1;
-        now.get(..first) == self.old.get(..first)
-            && now.get(first) == Some(&b' ')
-            && (rest..=now.len()).any(|place| {
-                now.get(rest..place) == self.new.get(rest..place)
-                    && now.get(place..) == self.old.get(place..)
-            })
-    }
-
-    /// Whether the file has the old bytes, or the new ones, or it is closed and refused.
-    fn is_whole(&self, alloc: Global, now: &[u8]) -> Result<bool, Memory> {
-        if now == self.old || now == self.new {
+    /// Whether the file has the old bytes, the new ones, or a closed packet of both, which is refused.
+    fn is_whole(&self, alloc: Global, old: &[u8], new: &[u8]) -> Result<bool, Memory> {
+        let now = self.file();
+        if now == old || now == new {
             return Ok(true);
         }
         let tree = run_over(alloc, &["tree", "a.xmp"], now)?;
-        Ok(self.has_closed(now) && tree.ended("", self.closed))
+        Ok(is_closed(old, new, now) && tree.ended("", "refused NotKnown file 0 0 0\n"))
     }
+}
 
-    /// How many calls leave a closed packet where they fail, each of them failing in its turn. None where one
-    /// ends otherwise than it must.
-    pub fn closed_states(&self, alloc: Global) -> Result<Option<u64>, Memory> {
-        let mut closed: u64 = 0;
-        for fails in 1..1000 {
-            let ran = patch(alloc, self.old, SET_TIFF, fails)?;
-            if ran.ended(self.report, "") {
-                return Ok(if ran.file() == self.new {
-                    Some(closed)
-                } else {
-                    None
-                });
-            }
-            if !ran.ended("", "device\n") || !self.is_whole(alloc, ran.file())? {
-                return Ok(None);
-            }
-            if self.has_closed(ran.file()) {
-                closed = closed.saturating_add(1);
-            }
-        }
-        Ok(None)
-    }
+/// Whether a space stands before the new bytes up to some place, and the old ones after it.
+fn is_closed(old: &[u8], new: &[u8], now: &[u8]) -> bool {
+    now.first() == Some(&b' ')
+        && (1..=now.len()).any(|place| {
+            now.get(1..place) == new.get(1..place) && now.get(place..) == old.get(place..)
+        })
 }
 
 /// Patches `a.xmp` of these bytes on a desk that moves one byte a call, and whose call of this number fails.
@@ -145,28 +94,19 @@ pub fn patch(alloc: Global, file: &[u8], script: &str, fails: u64) -> Result<Pat
     })
 }
 
-/// A sidecar that is closed is of no kind.
-fn sidecar<'t>(old: &'t [u8], new: &'t [u8]) -> Case<'t> {
-    Case {
-        old,
-        new,
-        at: 0,
-        report: "in-place 328\n",
-        closed: "refused NotKnown file 0 0 0\n",
-    }
-}
-
 #[test]
 fn patch_exchanges_the_packet_after_its_first_byte(rt: HostRuntime) -> Result<(), Fail> {
     let alloc = rt.alloc();
     let old = packet(alloc, PHOTO, 0, "w")?;
     let new = packet(alloc, TIFF, 0, "w")?;
-    assert_eq!(rt; sidecar(&old, &new).written(alloc)?, Some(INSIDE));
+    let ran = patch(alloc, &old, SET_TIFF, 0)?;
+    assert!(rt; ran.ran.ended("in-place 328\n", "") && ran.file() == new.as_slice());
+    assert_eq!(rt; ran.writes(), Some(LENGTH - FROM));
     Ok(())
 }
 
 /// Whether `patch` sends this text and this line, and writes nothing.
-pub fn writes_none(
+fn writes_none(
     alloc: Global,
     file: &[u8],
     script: &str,
@@ -207,12 +147,31 @@ fn a_text_that_does_not_fit_needs_relocation(rt: HostRuntime) -> Result<(), Fail
     Ok(())
 }
 
+/// How many calls leave a closed packet where they fail, each of them failing in its turn. None where one
+/// ends otherwise than it must.
+fn closed_states(alloc: Global, old: &[u8], new: &[u8]) -> Result<Option<u64>, Memory> {
+    let mut closed: u64 = 0;
+    for fails in 1..600 {
+        let ran = patch(alloc, old, SET_TIFF, fails)?;
+        if ran.ran.ended("in-place 328\n", "") {
+            return Ok(Some(closed));
+        }
+        if !ran.ran.ended("", "device\n") || !ran.is_whole(alloc, old, new)? {
+            return Ok(None);
+        }
+        if ran.file().first() == Some(&b' ') {
+            closed = closed.saturating_add(1);
+        }
+    }
+    Ok(None)
+}
+
 /// The first write closes the packet, and the last opens it: between them and at the last it stays closed.
 #[test]
 fn a_patch_that_fails_leaves_the_old_tree_or_a_refusal(rt: HostRuntime) -> Result<(), Fail> {
     let alloc = rt.alloc();
     let old = packet(alloc, PHOTO, 0, "w")?;
     let new = packet(alloc, TIFF, 0, "w")?;
-    assert_eq!(rt; sidecar(&old, &new).closed_states(alloc)?, Some(INSIDE + 1));
+    assert_eq!(rt; closed_states(alloc, &old, &new)?, Some(LENGTH - FROM + 1));
     Ok(())
 }
